@@ -1,0 +1,54 @@
+-- Masking and unmasking undo each other, and a written frame taken apart gives back what it was made of.
+use Prim.Native.Nat.{ℕ, _+_, _≤_, _<_}
+use mathlib.Core.Path.{_≡_, refl, _∙_}
+use mathlib.Core.List.{List, [], _∷_, _++_, map}
+use lib.ListN.{length, length-append, length-map}
+use Rattle.frame.specs.Frame.{Frame, Bytes, masked, unmasked, frameOf, addressOf, controlOf, lengthOf, dataOf}
+use native.Mathlib.Omega.{arith}
+use Rattle.frame.specs.Laws.{summed-length, address-part, control-part, length-part, field-part}
+use Rattle.frame.specs.Writing.{frameFor}
+
+pub unmasked-masked : (b : ℕ) → b < 256 → unmasked (masked b) ≡ b
+unfolding masked unmasked
+unmasked-masked b h = omega arith
+
+pub masked-unmasked : (b : ℕ) → b < 256 → masked (unmasked b) ≡ b
+unfolding masked unmasked
+masked-unmasked b h = omega arith
+
+pub unmasked-masked-all : (xs : List ℕ) → Bytes xs → map unmasked (map masked xs) ≡ xs
+unmasked-masked-all [] h = refl
+unmasked-masked-all (x ∷ xs) h = rw (unmasked-masked x (h .0), unmasked-masked-all xs (h .1))
+
+pub masked-unmasked-all : (xs : List ℕ) → Bytes xs → map masked (map unmasked xs) ≡ xs
+masked-unmasked-all [] h = refl
+masked-unmasked-all (x ∷ xs) h = rw (masked-unmasked x (h .0), masked-unmasked-all xs (h .1))
+
+-- A frame has twelve bytes besides its data field.
+pub frame-length : (address : List ℕ) (control : ℕ) (field : List ℕ) → length address ≡ 6 → length (frameOf address control field) ≡ 12 + length field
+unfolding frameOf
+frame-length address control field h = rw (length-append, summed-length address control field h) (omega arith)
+
+-- What is written is a frame.
+pub frame-for : (address : List ℕ) (control : ℕ) (meant : List ℕ) → length address ≡ 6 → length meant ≤ 200 → Frame (frameFor address control meant)
+unfolding frameFor
+frame-for address control meant h k =
+    record { address = address; control = control; field = map masked meant; six = h; most = rw length-map k; made = refl }
+
+-- A written frame, whatever stands behind it, taken apart.
+module _ (address : List ℕ) (control : ℕ) (meant more : List ℕ) (six : length address ≡ 6) where
+  pub address-back : addressOf (frameFor address control meant ++ more) ≡ address
+  unfolding frameFor
+  address-back = address-part address control (map masked meant) more six
+
+  pub control-back : controlOf (frameFor address control meant ++ more) ≡ control
+  unfolding frameFor
+  control-back = control-part address control (map masked meant) more six
+
+  pub length-back : lengthOf (frameFor address control meant ++ more) ≡ length meant
+  unfolding frameFor
+  length-back = length-part address control (map masked meant) more six ∙ length-map meant masked
+
+  pub data-back : Bytes meant → dataOf (frameFor address control meant ++ more) ≡ meant
+  unfolding frameFor dataOf
+  data-back h = rw (field-part address control (map masked meant) more six) (unmasked-masked-all meant h)

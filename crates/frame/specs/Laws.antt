@@ -1,0 +1,97 @@
+-- Laws about the definitions of this crate that its proofs, and those of other crates, cite.
+use Prim.Native.Nat.{ℕ, _+_, _%_, _≤_, _<_}
+use mathlib.Core.Path.{_≡_, refl, ap, sym, _∙_}
+use mathlib.Core.List.{List, [], _∷_, _++_, map, append-assoc}
+use mathlib.Core.Bool.{Bool, true, false}
+use native.Mathlib.Numerals.{add-one}
+use native.Mathlib.Omega.{arith}
+use lib.ListN.{length, take, drop, getD, length-append, length-map}
+use lib.Seq.{take-suc, take-at, drop-at, take-append-seam, getD-drop, drop-drop}
+use lib.Dec.{eqb}
+use borrow.Author.Tests.{lt-leb, ne-eqb}
+use Rattle.frame.specs.Frame.{total, checksumOf, masked, summed, frameOf, addressOf, controlOf, lengthOf, fieldOf}
+use Rattle.frame.specs.MemoryLaws.{over-over}
+use Rattle.frame.specs.Memory.{over, pick}
+use Rattle.frame.specs.Recognition.{recognisedEnd}
+use Rattle.frame.specs.declared.Recognised.the-variants.{Neither}
+
+-- The sum of two lists, one behind the other, is the sum of their sums.
+pub total-append : (xs ys : List ℕ) → total (xs ++ ys) ≡ total xs + total ys
+unfolding total
+total-append [] ys = omega arith
+total-append (x ∷ xs) ys = let rest = total-append xs ys in omega arith
+
+-- One byte more: the checksum goes on from the checksum so far.
+pub checksum-next : (bytes : List ℕ) (i : ℕ) → i < length bytes → checksumOf (take (i + 1) bytes) ≡ (checksumOf (take i bytes) + getD bytes i 0) % 256
+unfolding total checksumOf
+checksum-next bytes i h =
+    let snoc : total (take (i + 1) bytes) ≡ total (take i bytes) + (getD bytes i 0 + 0) =
+    rw (add-one, take-suc bytes i 0, total-append) in
+    omega arith
+
+-- A wrong last byte ends the place, whatever the checksum is.
+pub last-wrong : (bytes : List ℕ) (n : ℕ) → n + 1 < length bytes → (getD bytes (n + 1) 0 ≡ 0x16 → ⊥) → recognisedEnd bytes n ≡ Neither
+unfolding recognisedEnd
+last-wrong bytes n there wrong =
+    simp (lt-leb (length bytes) n (omega arith), lt-leb _ _ there, ne-eqb _ _ wrong) (same (eqb (getD bytes n 0) (checksumOf (take n bytes))))
+  where
+    same : (t : Bool) → pick t Neither Neither ≡ Neither
+    same true = refl
+    same false = refl
+
+-- The bytes before the data field, and the field behind them, are what the checksum is taken over.
+pub summed-parts : (address : List ℕ) (control : ℕ) (meant : List ℕ)
+    → (0x68 ∷ (address ++ (0x68 ∷ control ∷ length meant ∷ []))) ++ map masked meant ≡ summed address control (map masked meant)
+unfolding summed
+summed-parts address control meant = rw (append-assoc, length-map)
+
+-- They are ten more than the data field.
+pub summed-length : (address : List ℕ) (control : ℕ) (field : List ℕ) → length address ≡ 6 → length (summed address control field) ≡ 10 + length field
+unfolding summed
+summed-length address control field six = rw (length-append, six) (omega arith)
+
+-- What stands at the front is sealed: its checksum and 16 go behind it.
+pub sealed : (n : ℕ) (s m : List ℕ) → length s ≡ n → let o = over s m in
+    over (take n o ++ (checksumOf (take n o) ∷ 0x16 ∷ [])) o ≡ over (s ++ (checksumOf s ∷ 0x16 ∷ [])) m
+sealed n s m e =
+    let front : take n (over s m) ≡ s = take-at s (drop (length s) m) n e in
+    let more : length s ≤ length (s ++ (checksumOf s ∷ 0x16 ∷ [])) = rw length-append (omega arith) in
+    ap (λ (l : List ℕ). over (l ++ (checksumOf l ∷ 0x16 ∷ [])) (over s m)) front ∙ over-over (s ++ (checksumOf s ∷ 0x16 ∷ [])) s m more
+
+-- A frame, whatever stands behind it, taken apart.
+module _ (address : List ℕ) (control : ℕ) (field more : List ℕ) (six : length address ≡ 6) where
+  -- From the second 68 on.
+  behind : List ℕ
+  behind = 0x68 ∷ control ∷ length field ∷ (field ++ (checksumOf (summed address control field) ∷ 0x16 ∷ more))
+
+  -- The frame as the first 68, the address and the rest.
+  split : frameOf address control field ++ more ≡ 0x68 ∷ (address ++ behind)
+  unfolding frameOf summed behind
+  split = simp append-assoc
+
+  -- What stands behind the address.
+  after-address : drop 6 (address ++ behind) ≡ behind
+  after-address = drop-at address behind 6 six
+
+  -- The address field, off the bytes.
+  pub address-part : addressOf (frameOf address control field ++ more) ≡ address
+  unfolding addressOf
+  address-part = rw split (take-at address behind 6 six)
+
+  -- The control code, off the bytes.
+  pub control-part : controlOf (frameOf address control field ++ more) ≡ control
+  unfolding controlOf behind
+  control-part = rw split (sym (getD-drop 6 (address ++ behind) 1 0) ∙ ap (λ (l : List ℕ). getD l 1 0) after-address)
+
+  -- The data length, off the bytes.
+  pub length-part : lengthOf (frameOf address control field ++ more) ≡ length field
+  unfolding lengthOf behind
+  length-part = rw split (sym (getD-drop 6 (address ++ behind) 2 0) ∙ ap (λ (l : List ℕ). getD l 2 0) after-address)
+
+  -- The data field, off the bytes.
+  pub field-part : fieldOf (frameOf address control field ++ more) ≡ field
+  unfolding fieldOf behind
+  field-part =
+      rw (length-part, split)
+      (ap (λ (l : List ℕ). take (length field) l) (sym (drop-drop 3 6 (address ++ behind)) ∙ ap (λ (l : List ℕ). drop 3 l) after-address)
+      ∙ take-append-seam field _)

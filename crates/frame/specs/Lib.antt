@@ -1,0 +1,9 @@
+pub mod Memory
+pub mod Frame
+pub mod Recognition
+pub mod Writing
+pub mod MemoryLaws
+pub mod Laws
+pub mod FrameLaws
+pub mod RecognitionSteps
+pub mod RecognitionLaws

@@ -1,0 +1,236 @@
+use Prim.Native.Nat.{ℕ, zero, suc, _≤_, _<_, _+_, _-_, _*_, _%_, _/_, _^_}
+use mathlib.Core.Path.{_≡_, refl, ap, sym, _∙_, subst}
+use borrow.Rule.Slice.PartMut.{putMid}
+use Rattle.line.specs.Scan.{settled}
+use Rattle.frame.specs.RecognitionLaws.{whole-within}
+use mathlib.Core.Logic.{⊎-elim}
+use mathlib.Core.Bool.{Bool, true, false}
+use mathlib.Core.List.{List, [], _∷_, _++_}
+use native.Mathlib.Omega.{arith}
+use borrow.Author.Needs.{needs}
+use borrow.Author.Tests.{not-true, not-false}
+use lib.ListN.{length, take, drop, getD, set, length-take, length-drop}
+use Rattle.frame.specs.Memory.{over}
+use Rattle.frame.specs.Recognition.{recognised}
+use Rattle.frame.specs.declared.Recognised.the-variants.{Whole, Open, Neither}
+use Rattle.line.specs.DrainLaws.{rest-part, copied, Draining, draining-start, draining-next, draining-whole, draining-end, draining-open, draining-closed, whole-fits, whole-least}
+use Rattle.line.proofs.drain.drain.Statement.{statement}
+use Rattle.line.proofs.drain.drain.Tie as tie
+use Rattle.line.proofs.drain.drain.Reads as reads
+use Rattle.line.proofs.drain.drain.Lts as lts
+use Rattle.bytes.proofs.copy.Reads as copy-reads
+use Rattle.frame.proofs.recognise.Reads as recognise-reads
+
+abbrev Inv-loop : tie.InvT-loop
+Inv-loop line start closed out₀ n at₀ written₀ frames₀ out at written frames = Draining line start closed out₀ out at written frames
+
+abbrev μ-loop : tie.MeasureT-loop
+μ-loop line start closed out₀ n at₀ written₀ frames₀ out at written frames = length line - at
+
+-- what the bytes from the place on begin with
+seen : (c : tie.After-recognise Inv-loop μ-loop) →
+    c .recognise .result ≡ recognised (drop (c .before .before .before .loop .at) (c .before .before .before .before .before .before .args .line .now))
+seen c = c .recognise .ensures ∙ ap recognised (rest-part (c .before .before .before .loop .at) (c .before .before .before .before .before .before .args .line .now))
+
+-- the frame that stands there
+abbrev size : tie.After-known-told Inv-loop μ-loop → ℕ
+size c = c .before .found .given .0 .0
+
+whole : (c : tie.After-known-told Inv-loop μ-loop) →
+    recognised (drop (c .before .before .before .before .before .before .loop .at) (c .before .before .before .before .before .before .before .before .before .args .line .now))
+    ≡ Whole (size c)
+whole c = sym (seen (c .before .before .before)) ∙ c .before .found .given .1
+
+fits : (c : tie.After-known-told Inv-loop μ-loop) →
+    c .before .before .before .before .before .before .loop .at + size c ≤ length (c .before .before .before .before .before .before .before .before .before .args .line .now)
+fits c = whole-fits _ _ _ _ _ _ _ _ (c .before .before .before .before .before .before .loop .inv) (size c) (whole c)
+
+least : (c : tie.After-known-told Inv-loop μ-loop) → 12 ≤ size c
+least c = whole-least _ _ _ _ _ _ _ _ (c .before .before .before .before .before .before .loop .inv) (size c) (whole c)
+
+-- src/drain.rt:36:5
+loop-holds : tie.Need-loop-holds Inv-loop μ-loop
+loop-holds c = draining-start _ _ _ _ (c .before .before .pre .0)
+
+-- src/drain.rt:37:38
+sub-recognise : tie.Need-sub-recognise Inv-loop μ-loop
+sub-recognise c = search needs
+
+-- src/drain.rt:37:38
+part-recognise-start : tie.Need-part-recognise-start Inv-loop μ-loop
+part-recognise-start c = search needs
+
+-- src/drain.rt:37:38
+part-recognise-end : tie.Need-part-recognise-end Inv-loop μ-loop
+part-recognise-end c = search needs
+
+-- src/drain.rt:37:13
+recognise-requires : tie.Need-recognise-requires Inv-loop μ-loop
+recognise-requires c κs = search needs
+
+-- src/drain.rt:39:38
+enum-known-found : tie.Need-enum-known-found Inv-loop μ-loop
+enum-known-found c = search needs
+
+-- src/drain.rt:40:39
+add-copy : tie.Need-add-copy Inv-loop μ-loop
+add-copy c = omega (arith, fits c, c .before .before .before .before .before .before .before .before .before .good .0 .0)
+
+-- src/drain.rt:40:29
+sub-copy : tie.Need-sub-copy Inv-loop μ-loop
+sub-copy c = search needs
+
+-- src/drain.rt:40:29
+part-copy-start : tie.Need-part-copy-start Inv-loop μ-loop
+part-copy-start c = search needs
+
+-- src/drain.rt:40:29
+part-copy-end : tie.Need-part-copy-end Inv-loop μ-loop
+part-copy-end c = fits c
+
+-- src/drain.rt:40:48
+sub-copy-2 : tie.Need-sub-copy-2 Inv-loop μ-loop
+sub-copy-2 c = search needs
+
+-- src/drain.rt:40:48
+part-copy-start-2 : tie.Need-part-copy-start-2 Inv-loop μ-loop
+part-copy-start-2 c = search needs
+
+-- src/drain.rt:40:48
+part-copy-end-2 : tie.Need-part-copy-end-2 Inv-loop μ-loop
+part-copy-end-2 c = search needs
+
+-- src/drain.rt:40:17
+copy-requires : tie.Need-copy-requires Inv-loop μ-loop
+copy-requires c κs = simp (length-take, length-drop) (omega (arith, fits (c .before .before)))
+
+-- src/drain.rt:41:17
+add-written : tie.Need-add-written Inv-loop μ-loop
+add-written c =
+    let k = c .before .before .before .before .before in
+    omega (arith, fits k, k .before .before .before .before .before .before .loop .inv .room, k .before .before .before .before .before .before .before .before .before .good .0 .0)
+
+-- src/drain.rt:42:17
+add-frames : tie.Need-add-frames Inv-loop μ-loop
+add-frames c = search needs
+
+-- src/drain.rt:43:17
+add-at : tie.Need-add-at Inv-loop μ-loop
+add-at c =
+    let k = c .before .before .before .before .before in
+    omega (arith, fits k, k .before .before .before .before .before .before .before .before .before .good .0 .0)
+
+-- src/drain.rt:36:5
+loop-less : tie.Need-loop-less Inv-loop μ-loop
+loop-less c =
+    let k = c .before .before .before .before .before in
+    omega (arith, fits k, least k)
+
+-- src/drain.rt:36:5
+loop-again : tie.Need-loop-again Inv-loop μ-loop
+loop-again c =
+    let k = c .before .before .before .before .before in
+    let l = k .before .before .before .before .before .before in
+    let a = l .before .before .before .args in
+    let n : ℕ = size k in
+    let rest : List ℕ = drop (l .loop .at) (a .line .now) in
+    let part : List ℕ = take (length (l .loop .out) - l .loop .written) (drop (l .loop .written) (l .loop .out)) in
+    let same : l .loop .at + n - l .loop .at ≡ n = omega arith in
+    let e : c .before .before .copy .last .1 .0 ≡ over (take n rest) part =
+    c .before .before .copy .ensures .1 ∙ copied (take (l .loop .at + n - l .loop .at) rest) part ∙ ap (λ (i : ℕ). over (take i rest) part) same in
+    subst (λ (y : List ℕ). Draining (a .line .now) (a .start) (a .closed) (a .out .now) (putMid (l .loop .written) (length (l .loop .out) - l .loop .written) (l .loop .out) y) (l .loop .at + n) (l .loop .written + n) (l .loop .frames + 1))
+    (sym e)
+    (draining-whole _ _ _ _ _ _ _ _ (l .loop .inv) n (whole k) (l .before .before .before .pre .1))
+
+-- src/drain.rt:46:20
+enum-told : tie.Need-enum-told Inv-loop μ-loop
+enum-told c = search needs
+
+-- src/drain.rt:47:21
+same-length : tie.Need-same-length Inv-loop μ-loop
+same-length c = search needs
+
+-- src/drain.rt:47:21
+returns : tie.Need-returns Inv-loop μ-loop
+returns c =
+    let r = c .before .before .before in
+    draining-open _ _ _ _ _ _ _ _ (r .before .before .before .loop .inv) (not-true _ (c .if1 .taken)) (sym (seen r) ∙ c .before .enum-told .given .1)
+
+-- src/drain.rt:53:17
+add-at-2 : tie.Need-add-at-2 Inv-loop μ-loop
+add-at-2 c = search needs
+
+-- src/drain.rt:36:5
+loop-less-2 : tie.Need-loop-less-2 Inv-loop μ-loop
+loop-less-2 c = search needs
+
+-- src/drain.rt:36:5
+loop-again-2 : tie.Need-loop-again-2 Inv-loop μ-loop
+loop-again-2 c =
+    let r = c .before .before .before in
+    draining-closed _ _ _ _ _ _ _ _ (r .before .before .before .loop .inv) (r .before .before .loop-test .taken) (not-false _ (c .if1 .left)) (sym (seen r) ∙ c .before .enum-told .given .1)
+
+-- src/drain.rt:56:17
+enum-told-2 : tie.Need-enum-told-2 Inv-loop μ-loop
+enum-told-2 c = search needs
+
+-- src/drain.rt:56:17
+add-at-3 : tie.Need-add-at-3 Inv-loop μ-loop
+add-at-3 c = search needs
+
+-- src/drain.rt:36:5
+loop-less-3 : tie.Need-loop-less-3 Inv-loop μ-loop
+loop-less-3 c = search needs
+
+-- src/drain.rt:36:5
+loop-again-3 : tie.Need-loop-again-3 Inv-loop μ-loop
+unfolding settled
+loop-again-3 c =
+    let r = c .before .before in
+    draining-next _ _ _ _ _ _ _ _ (r .before .before .before .loop .inv) (r .before .before .loop-test .taken) (ap (settled _) (sym (seen r) ∙ c .enum-told2 .given .1))
+
+-- src/drain.rt:28:1
+same-length-2 : tie.Need-same-length-2 Inv-loop μ-loop
+same-length-2 c = search needs
+
+-- src/drain.rt:28:1
+returns-2 : tie.Need-returns-2 Inv-loop μ-loop
+returns-2 c = draining-end _ _ _ _ _ _ _ _ (c .before .loop .inv) (c .loop-test .left)
+
+pub drain-spec : {M : Type 1} → statement M
+drain-spec =
+    tie.close
+    (tie.spec
+    Inv-loop
+    μ-loop
+    loop-holds
+    sub-recognise
+    part-recognise-start
+    part-recognise-end
+    recognise-requires
+    enum-known-found
+    add-copy
+    sub-copy
+    part-copy-start
+    part-copy-end
+    sub-copy-2
+    part-copy-start-2
+    part-copy-end-2
+    copy-requires
+    add-written
+    add-frames
+    add-at
+    loop-less
+    loop-again
+    enum-told
+    same-length
+    returns
+    add-at-2
+    loop-less-2
+    loop-again-2
+    enum-told-2
+    add-at-3
+    loop-less-3
+    loop-again-3
+    same-length-2
+    returns-2)

@@ -1,0 +1,141 @@
+use Prim.Native.Nat.{ℕ, zero, suc, _≤_, _<_, _+_, _-_, _*_, _%_, _/_, _^_}
+use mathlib.Core.Path.{_≡_, refl, ap, sym, _∙_}
+use mathlib.Core.Logic.{⊎-elim}
+use mathlib.Core.Bool.{Bool, true, false}
+use mathlib.Core.List.{List, [], _∷_, _++_}
+use native.Mathlib.Omega.{arith}
+use borrow.Author.Needs.{needs}
+use Rattle.line.specs.Drain.{readingFrom}
+use lib.ListN.{length, take, drop, replicate, length-take, length-append, length-drop}
+use lib.Seq.{length-take-le, take-at}
+use Rattle.frame.specs.Memory.{over}
+use Rattle.line.specs.DrainLaws.{copied, drained-settles}
+use Rattle.frame.specs.MemoryLaws.{over-length}
+use Rattle.line.proofs.drain.settle.Statement.{statement}
+use Rattle.line.proofs.drain.settle.Tie as tie
+use Rattle.line.proofs.drain.settle.Reads as reads
+use Rattle.line.proofs.drain.settle.Lts as lts
+use Rattle.bytes.proofs.copy.Reads as copy-reads
+use Rattle.line.proofs.drain.drain.Reads as drain-reads
+use Rattle.line.proofs.drain.join.Reads as join-reads
+
+-- the bytes that are settled: the kept ones and the byte after them
+abbrev bytes : tie.Start → List ℕ
+bytes s = take (s .args .count) (s .args .kept .now) ++ (s .args .b ∷ [])
+
+bytes-size : (s : tie.Start) → length (bytes s) ≡ s .args .count + 1
+bytes-size s =
+    simp (length-append, length-take-le (s .args .count) (s .args .kept .now) (omega arith))
+
+-- the array that is drained: those bytes over zeros
+abbrev line : tie.After-join → List ℕ
+line c = c .join .last .1 .1 .1 .0
+
+abbrev at-start : tie.After-join → tie.Start
+at-start c = c .before .before .before .before .before
+
+line-size : (c : tie.After-join) → length (line c) ≡ 212
+line-size c =
+    let s = at-start c in
+    let n : length (bytes s) ≡ s .args .count + 1 = bytes-size s in
+    ap length (c .join .ensures) ∙ over-length (bytes s) (replicate 212 0) (omega arith)
+
+front : (c : tie.After-join) → take (at-start c .args .count + 1) (line c) ≡ bytes (at-start c)
+front c =
+    let s = at-start c in
+    ap (take (s .args .count + 1)) (c .join .ensures) ∙ take-at (bytes s) (drop (length (bytes s)) (replicate 212 0)) (s .args .count + 1) (bytes-size s)
+
+-- how far draining came
+stopped : (c : tie.After-drain) →
+    let s = at-start (c .before .before .before .before) in
+    (1 ≤ c .drain .result .at) × (c .drain .result .at ≤ s .args .count + 1)
+stopped c =
+    let j = c .before .before .before .before in
+    let n : length (take (at-start j .args .count + 1) (line j)) ≡ at-start j .args .count + 1 = ap length (front j) ∙ bytes-size (at-start j) in
+    (c .drain .ensures .later, rw n at (c .drain .ensures .within))
+
+-- src/drain.rt:84:26
+slice-aggregate-join : tie.Need-slice-aggregate-join
+slice-aggregate-join c = search needs
+
+-- src/drain.rt:84:5
+join-requires : tie.Need-join-requires
+join-requires c κs = search needs
+
+-- src/drain.rt:85:13
+add-n : tie.Need-add-n
+add-n c = search needs
+
+-- src/drain.rt:86:19
+array-share-prefix-line : tie.Need-array-share-prefix-line
+array-share-prefix-line c = search needs
+
+-- src/drain.rt:86:19
+slice-aggregate-drain : tie.Need-slice-aggregate-drain
+slice-aggregate-drain c =
+    let j = c .before .before in
+    sym (ap length (front j) ∙ bytes-size (at-start j))
+
+-- src/drain.rt:86:9
+drain-requires : tie.Need-drain-requires
+drain-requires c κs =
+    let j = c .before .before .before in
+    let n : length (take (at-start j .args .count + 1) (line j)) ≡ at-start j .args .count + 1 = ap length (front j) ∙ bytes-size (at-start j) in
+    (rw n (omega arith), rw n (omega arith))
+
+-- src/drain.rt:88:17
+sub-copy : tie.Need-sub-copy
+sub-copy c = stopped (c .before .before) .1
+
+-- src/drain.rt:88:17
+part-copy-start : tie.Need-part-copy-start
+part-copy-start c = stopped (c .before .before .before) .1
+
+-- src/drain.rt:88:17
+part-copy-end : tie.Need-part-copy-end
+part-copy-end c = search needs
+
+-- src/drain.rt:88:5
+copy-requires : tie.Need-copy-requires
+copy-requires c κs =
+    let d = c .before .before .before .before .before in
+    let s = at-start (d .before .before .before .before) in
+    let k : length (s .args .kept .now) ≡ 211 = s .pre .0 .0 in
+    simp (length-take, length-drop) (omega (arith, stopped d, line-size (d .before .before .before .before)))
+
+-- src/drain.rt:90:16
+sub-t18 : tie.Need-sub-t18
+sub-t18 c = stopped (c .before .before .before .before .before .before) .1
+
+-- src/drain.rt:78:1
+same-length : tie.Need-same-length
+same-length c = search needs
+
+-- src/drain.rt:78:1
+returns : tie.Need-returns
+returns c =
+    let d = c .before .before .before .before .before .before in
+    let j = d .before .before .before .before in
+    let s = at-start j in
+    let a = s .args in
+    drained-settles (a .kept .now) (c .copy .last .1 .0) (line j) (a .out .now) (d .drain .last .1 .1 .1 .0) (a .count) (a .b) (d .drain .result)
+    (front j) (s .pre .1) (d .drain .ensures) (c .copy .ensures .1 ∙ copied (take (a .count + 1 - d .drain .result .at) (drop (d .drain .result .at) (line j))) (a .kept .now))
+    (rw line-size (omega arith))
+
+pub settle-spec : {M : Type 1} → statement M
+settle-spec =
+    tie.close
+    (tie.spec
+    slice-aggregate-join
+    join-requires
+    add-n
+    array-share-prefix-line
+    slice-aggregate-drain
+    drain-requires
+    sub-copy
+    part-copy-start
+    part-copy-end
+    copy-requires
+    sub-t18
+    same-length
+    returns)

@@ -1,0 +1,165 @@
+-- Laws of one call of a receiver that has heard a line: what it answers, what it hands on, and that it has then heard one symbol more.
+use Prim.Native.Nat.{ℕ, _≤_, _<_}
+use native.Mathlib.Omega.{arith}
+use mathlib.Core.Path.{_≡_, refl, ap, _∙_}
+use mathlib.Core.Logic.{_⊎_, inl, inr}
+use mathlib.Core.Bool.{Bool, true, false}
+use mathlib.Core.List.{List, [], _∷_, _++_, map, append-nil, append-assoc}
+use mathlib.Core.List.{List·Memᴰ, List·Memᴰ·head, List·Memᴰ·tail, Memᴰ·append-right, List·Memᴰ·append-cases}
+use lib.ListN.{length, take, drop, length-append, length-drop, length-replicate}
+use lib.Seq.{take-append-seam}
+use lib.Dec.{leb}
+use borrow.Author.Tests.{leb-true, leb-false, le-leb}
+use Rattle.frame.specs.Memory.{Outcome, outcome, pick}
+use Rattle.frame.specs.RecognitionLaws.{open-most}
+use Rattle.line.specs.Line.{Symbol, byte, Certain}
+use Rattle.line.specs.Places.{Found, AllAbove, Rising, joined}
+use Rattle.line.specs.Scan.{scan}
+use Rattle.line.specs.ScanLaws.{scan-rising, scan-kept-open, place-joined, place-count, place-kept, one-more}
+use Rattle.line.specs.ScanCertain.{found-certain, certain-found}
+use Rattle.line.specs.Receiver.{fresh, keptBytes, isOpen, withinRange, refused, readingWith, keeping, delivered, called}
+use Rattle.line.specs.declared.Receiver.{Receiver}
+use Rattle.line.specs.declared.Received.{Received}
+use Rattle.line.specs.declared.Answer.the-variants.{Refused, Delivered}
+
+-- The bytes of frames joined are their bytes joined.
+joined-append : (a b : List Found) → joined (a ++ b) ≡ joined a ++ joined b
+unfolding joined
+joined-append [] b = refl
+joined-append (f ∷ a) b = rw (joined-append a b, append-assoc)
+
+-- A frame of a list stands above what all its places are above, and of rising frames none stands twice.
+above-member : {p : ℕ} {f : Found} {l : List Found} → List·Memᴰ f l → AllAbove p l → p < f .place
+above-member (List·Memᴰ·head e) h = rw e (h .0)
+above-member (List·Memᴰ·tail m) h = above-member m (h .1)
+
+once : {f : Found} {a : List Found} (b : List Found) → List·Memᴰ f a → Rising (a ++ b) → List·Memᴰ f b → ⊥
+once b (List·Memᴰ·head {xs = a} e) h m = omega (arith, ap (λ (f : Found). f .place) e, above-member (Memᴰ·append-right a m) (h .0))
+once b (List·Memᴰ·tail k) h m = once b k (h .1) m
+
+-- The frames that the scan finds with one symbol more.
+unfoldable pub newFrames : List Symbol → Symbol → List Found
+newFrames x s = scan (one-more x s .place) 0 (map byte (scan 0 0 x .kept) ++ (s ∷ [])) .frames
+
+module _ (x : List Symbol) (s : Symbol) where
+  pub new-after : scan 0 0 (x ++ (s ∷ [])) .frames ≡ scan 0 0 x .frames ++ newFrames x s
+  unfolding newFrames
+  new-after = one-more x s .frames
+
+  pub new-rising : Rising (newFrames x s)
+  unfolding newFrames
+  new-rising = scan-rising _ 0 _
+
+  -- They are certain after that symbol and not before, and there are no others.
+  pub new-certain : (place : ℕ) (frame : List ℕ) → List·Memᴰ (record { place = place; frame = frame }) (newFrames x s) →
+      Certain (x ++ (s ∷ [])) place frame × (Certain x place frame → ⊥)
+  new-certain place frame m = (
+    found-certain (x ++ (s ∷ [])) place frame (rw new-after (Memᴰ·append-right (scan 0 0 x .frames) m)),
+    λ c. once (newFrames x s) (certain-found x place frame c) (rw new-after at (scan-rising 0 0 (x ++ (s ∷ [])))) m,
+  )
+
+  pub certain-new : (place : ℕ) (frame : List ℕ) → Certain (x ++ (s ∷ [])) place frame × (Certain x place frame → ⊥) →
+      List·Memᴰ (record { place = place; frame = frame }) (newFrames x s)
+  certain-new place frame c =
+      go (List·Memᴰ·append-cases (scan 0 0 x .frames) (rw new-after at (certain-found (x ++ (s ∷ [])) place frame (c .0))))
+    where
+      f : Found
+      f = record { place = place; frame = frame }
+
+      go : List·Memᴰ f (scan 0 0 x .frames) ⊎ List·Memᴰ f (newFrames x s) → List·Memᴰ f (newFrames x s)
+      go (inl m) = absurd (c .1 (found-certain x place frame m))
+      go (inr m) = m
+
+-- A receiver that has heard a line keeps what the scan of the line keeps.
+pub record Heard (x : List Symbol) (r : Receiver) : Type 0 where
+  pub size : length (r .kept) ≡ 211
+  pub bytes : keptBytes r ≡ scan 0 0 x .kept
+  pub count : r .count ≡ length (scan 0 0 x .kept)
+
+-- It keeps at most 211 bytes.
+pub heard-most : {x : List Symbol} {r : Receiver} → Heard x r → r .count ≤ 211
+heard-most {x} h = omega (arith, h .count, open-most (scan 0 0 x .kept) (scan-kept-open 0 0 x))
+
+-- A fresh receiver has heard nothing.
+pub fresh-heard : Heard [] fresh
+unfolding fresh keptBytes scan
+fresh-heard = record { size = length-replicate {A = ℕ} 211 0; bytes = refl; count = refl }
+
+-- A receiver that keeps what the scan of another line keeps has heard that line.
+keeping-heard : {x y : List Symbol} {r : Receiver} (b : List ℕ) → Heard x r → b ≡ scan 0 0 y .kept → Heard y (keeping b r)
+unfolding keeping keptBytes
+keeping-heard {x} {y} {r} b h e =
+    let l : length b ≤ 211 = rw e (open-most (scan 0 0 y .kept) (scan-kept-open 0 0 y)) in
+    let z : length (r .kept) ≡ 211 = h .size in
+    record {
+      size = simp (length-append, length-drop) (omega arith);
+      bytes = take-append-seam b (drop (length b) (r .kept)) ∙ e;
+      count = ap length e;
+    }
+
+-- What it reads with one symbol more: the bytes and the number of the new frames, and what the scan keeps after that symbol.
+module _ {x : List Symbol} {r : Receiver} (s : Symbol) (h : Heard x r) where
+  reads-joined : joined (readingWith r s .frames) ≡ joined (newFrames x s)
+  unfolding readingWith newFrames
+  reads-joined = rw (h .bytes) (place-joined _ _ _)
+
+  reads-count : length (readingWith r s .frames) ≡ length (newFrames x s)
+  unfolding readingWith newFrames
+  reads-count = rw (h .bytes) (place-count _ _ _)
+
+  reads-kept : readingWith r s .kept ≡ scan 0 0 (x ++ (s ∷ [])) .kept
+  unfolding readingWith
+  reads-kept = rw (h .bytes, one-more x s .kept) (place-kept _ _ _)
+
+-- It is within its range, so a call looks at the memory.
+within : {x : List Symbol} {r : Receiver} → Heard x r → withinRange r ≡ true
+unfolding withinRange isOpen
+within {x} {r} h = rw (le-leb (r .count) 211 (heard-most h), h .bytes, scan-kept-open 0 0 x)
+
+called-within : {x : List Symbol} {r : Receiver} (s : Symbol) (m : List ℕ) → Heard x r →
+    called s r m ≡ pick (leb 212 (length m)) (delivered (readingWith r s) r m) (refused 1 r m)
+unfolding called
+called-within s m h = rw (within h)
+
+-- What a call answers: refused with 1 under 212 bytes of memory, and nothing changed; else the new frames, handed on.
+pub data Answers (x : List Symbol) (s : Symbol) (r : Receiver) (m : List ℕ) (returned : Received) (left : List ℕ) : Type 0 where
+  ignores : length m < 212 → returned .answer ≡ Refused 1 → returned .receiver ≡ r → left ≡ m → Answers x s r m returned left
+  delivers : 212 ≤ length m → returned .answer ≡ Delivered (length (joined (newFrames x s))) (length (newFrames x s)) →
+      Heard (x ++ (s ∷ [])) (returned .receiver) → take (length (joined (newFrames x s))) left ≡ joined (newFrames x s) →
+      Answers x s r m returned left
+
+pub answers : {x : List Symbol} {s : Symbol} {r : Receiver} {m : List ℕ} {returned : Received} {left : List ℕ} → Heard x r →
+    outcome returned left ≡ called s r m → Answers x s r m returned left
+unfolding refused delivered
+answers {x} {s} {r} {m} {returned} {left} h e = go (leb 212 (length m)) refl (e ∙ called-within s m h)
+  where
+    go : (b : Bool) → leb 212 (length m) ≡ b → outcome returned left ≡ pick b (delivered (readingWith r s) r m) (refused 1 r m) →
+        Answers x s r m returned left
+    go true l q =
+        delivers (leb-true _ _ l)
+        (ap (λ (o : Outcome Received). o .answer .answer) q ∙ rw (reads-joined s h, reads-count s h))
+        (rw (ap (λ (o : Outcome Received). o .answer .receiver) q) (keeping-heard (readingWith r s .kept) h (reads-kept s h)))
+        (rw (ap (λ (o : Outcome Received). o .memory) q, reads-joined s h) (take-append-seam (joined (newFrames x s)) _))
+    go false l q =
+        ignores (leb-false _ _ l) (ap (λ (o : Outcome Received). o .answer .answer) q) (ap (λ (o : Outcome Received). o .answer .receiver) q)
+        (ap (λ (o : Outcome Received). o .memory) q)
+
+-- After more symbols the receiver has heard them too, and the bytes of the frames found with them have been handed on.
+pub record After (x y : List Symbol) (handed : List ℕ) (r : Receiver) : Type 0 where
+  pub heard : Heard (x ++ y) r
+  pub frames : joined (scan 0 0 (x ++ y) .frames) ≡ joined (scan 0 0 x .frames) ++ handed
+
+-- After no symbol, after some and then more, and after one.
+pub after-none : {x : List Symbol} {r : Receiver} → Heard x r → After x [] [] r
+after-none {x} h = record { heard = rw append-nil h; frames = rw (append-nil x, append-nil) }
+
+pub after-then : {x y z : List Symbol} {g h : List ℕ} {r r′ : Receiver} → After x y g r → After (x ++ y) z h r′ →
+    After x (y ++ z) (g ++ h) r′
+after-then {x} {y} {z} a b =
+    record {
+      heard = rw append-assoc at (b .heard);
+      frames = rw (← append-assoc x y z, b .frames, a .frames, append-assoc);
+    }
+
+pub after-one : {x : List Symbol} {s : Symbol} {r : Receiver} → Heard (x ++ (s ∷ [])) r → After x (s ∷ []) (joined (newFrames x s)) r
+after-one {x} {s} h = record { heard = h; frames = rw new-after (joined-append (scan 0 0 x .frames) (newFrames x s)) }

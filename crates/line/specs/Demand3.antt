@@ -1,0 +1,152 @@
+-- Demand 3 of the letter: the receiver hears the line neither early nor late. One theorem over every list of calls from a fresh receiver.
+use Prim.Native.Nat.{ℕ, _≤_, _<_}
+use native.Mathlib.Omega.{arith}
+use mathlib.Core.Path.{_≡_, sym, subst}
+use mathlib.Core.Logic.{_↔_}
+use mathlib.Core.List.{List, [], _∷_, _++_, List·Memᴰ}
+use lib.ListN.{length, take}
+use Rattle.frame.specs.Memory.{outcome}
+use Rattle.line.specs.Line.{Symbol, AllBytes, Certain}
+use Rattle.line.specs.Places.{Found, Rising, joined}
+use Rattle.line.specs.Scan.{scan}
+use Rattle.line.specs.ScanLaws.{scan-rising}
+use Rattle.line.specs.ScanCertain.{found-certain, certain-found}
+use Rattle.line.specs.CallLaws.{newFrames, new-rising, new-certain, certain-new, Heard, heard-most, fresh-heard}
+use Rattle.line.specs.CallLaws.{Answers, ignores, delivers, answers, After, after-none, after-then, after-one}
+use Rattle.line.specs.Receiver.{fresh, called}
+use Rattle.line.specs.declared.Receiver.{Receiver}
+use Rattle.line.specs.declared.Received.{Received}
+use Rattle.line.specs.declared.Answer.{Answer}
+use Rattle.line.specs.declared.Answer.the-variants.{Refused, Delivered}
+
+-- A call: the symbol that it brought, the memory lent to it, what it returned, and that memory as it stood then.
+pub record Call : Type 0 where
+  pub symbol : Symbol
+  pub lent : List ℕ
+  pub returned : Received
+  pub left : List ℕ
+
+-- The receiver after a list of calls.
+abbrev pub receiverAfter : Receiver → List Call → Receiver
+receiverAfter r [] = r
+receiverAfter r (c ∷ cs) = receiverAfter (c .returned .receiver) cs
+
+-- Of each call, what its `ensures` says, given the receiver that the last one returned; a symbol is a byte below 256 or a silence.
+abbrev pub Calls : Receiver → List Call → Type 0
+Calls r [] = Unit
+Calls r (c ∷ cs) =
+    AllBytes (c .symbol ∷ []) × (outcome (c .returned) (c .left) ≡ called (c .symbol) r (c .lent)) × Calls (c .returned .receiver) cs
+
+-- What an answer adds to the line heard: the symbol, unless the call was refused.
+abbrev pub heardBy : Answer → Symbol → List Symbol
+heardBy (Refused n) s = []
+heardBy (Delivered bytes frames) s = s ∷ []
+
+-- The line heard: the symbols of all calls not refused.
+abbrev pub heard : List Call → List Symbol
+heard [] = []
+heard (c ∷ cs) = heardBy (c .returned .answer) (c .symbol) ++ heard cs
+
+-- What a call hands on: as many bytes as it says, from the front of its memory as it stands on return; nothing if refused.
+abbrev pub handedBy : Answer → List ℕ → List ℕ
+handedBy (Refused n) left = []
+handedBy (Delivered bytes frames) left = take bytes left
+
+-- All that was handed on, joined.
+abbrev pub handedOn : List Call → List ℕ
+handedOn [] = []
+handedOn (c ∷ cs) = handedBy (c .returned .answer) (c .left) ++ handedOn cs
+
+-- A strictly rising list of places and frames whose members are exactly those that `member` has.
+pub record Exactly (member : ℕ → List ℕ → Type 1) : Type 1 where
+  pub frames : List Found
+  pub rising : Rising frames
+  pub exact : (place : ℕ) (frame : List ℕ) → List·Memᴰ (record { place = place; frame = frame }) frames ↔ member place frame
+
+-- Certain after a symbol and not before it.
+abbrev pub Newly : List Symbol → Symbol → ℕ → List ℕ → Type 1
+Newly line s place frame = Certain (line ++ (s ∷ [])) place frame × (Certain line place frame → ⊥)
+
+-- A call lent under 212 bytes is refused with 1, and nothing changed.
+pub record Ignored (r : Receiver) (c : Call) : Type 0 where
+  pub answer : c .returned .answer ≡ Refused 1
+  pub receiver : c .returned .receiver ≡ r
+  pub memory : c .left ≡ c .lent
+
+-- Any other call gives the numbers of bytes and frames of the frames that became certain with its symbol.
+pub record Counted (line : List Symbol) (c : Call) : Type 1 where
+  pub new : Exactly (Newly line (c .symbol))
+  pub answer : c .returned .answer ≡ Delivered (length (joined (new .frames))) (length (new .frames))
+
+-- What holds of a call, by the line heard before it and the receiver given to it.
+pub record CallIsRight (line : List Symbol) (r : Receiver) (c : Call) : Type 1 where
+  pub short : length (c .lent) < 212 → Ignored r c
+  pub enough : 212 ≤ length (c .lent) → Counted line c
+
+-- What holds of a list of calls from a fresh receiver.
+pub record HearsTheLine (calls : List Call) : Type 1 where
+  -- each call of the list
+  pub each : (earlier : List Call) (c : Call) (later : List Call) → calls ≡ earlier ++ (c ∷ later) →
+      CallIsRight (heard earlier) (receiverAfter fresh earlier) c
+  -- the frames certain after the line heard, and that all that was handed on, joined, is their bytes joined
+  pub certain : Exactly (Certain (heard calls))
+  pub handed : handedOn calls ≡ joined (certain .frames)
+  -- at most 211 bytes are kept
+  pub kept : receiverAfter fresh calls .count ≤ 211
+
+-- What a call answers, by the line that the receiver given to it has heard.
+abbrev AnswersOf : List Symbol → Receiver → Call → Type 0
+AnswersOf line r c = Answers line (c .symbol) r (c .lent) (c .returned) (c .left)
+
+-- A call that answers so is right.
+call-right : {line : List Symbol} {r : Receiver} {c : Call} → AnswersOf line r c → CallIsRight line r c
+call-right (ignores l a e m) =
+    record { short = λ h. record { answer = a; receiver = e; memory = m }; enough = λ h. absurd (omega arith) }
+call-right {line} {c = c} (delivers l a e m) =
+    record { short = λ h. absurd (omega arith); enough = λ h. record { new = new; answer = a } }
+  where
+    new : Exactly (Newly line (c .symbol))
+    new =
+        record {
+          frames = newFrames line (c .symbol);
+          rising = new-rising line (c .symbol);
+          exact = λ place frame. (new-certain line (c .symbol) place frame, certain-new line (c .symbol) place frame);
+        }
+
+-- After a call, and after a list of calls, the receiver has heard what they heard, and what was found with it was handed on.
+call-after : {line : List Symbol} {r : Receiver} {c : Call} → Heard line r → AnswersOf line r c →
+    After line (heardBy (c .returned .answer) (c .symbol)) (handedBy (c .returned .answer) (c .left)) (c .returned .receiver)
+call-after h (ignores l a e m) = rw (a, e) (after-none h)
+call-after h (delivers l a e m) = rw (a, m) (after-one e)
+
+calls-after : {line : List Symbol} {r : Receiver} (calls : List Call) → Heard line r → Calls r calls →
+    After line (heard calls) (handedOn calls) (receiverAfter r calls)
+calls-after [] h k = after-none h
+calls-after (c ∷ cs) h k =
+    let a = call-after {c = c} h (answers h (k .1)) in
+    after-then a (calls-after cs (a .heard) (k .2))
+
+-- Of calls joined, the first are calls, and the others are calls of the receiver that the first return.
+calls-split : (r : Receiver) (earlier later : List Call) → Calls r (earlier ++ later) →
+    Calls r earlier × Calls (receiverAfter r earlier) later
+calls-split r [] later k = (tt, k)
+calls-split r (c ∷ cs) later k = let s = calls-split (c .returned .receiver) cs later (k .2) in ((k .0, k .1, s .0), s .1)
+
+-- Demand 3.
+pub demand-3 : (calls : List Call) → Calls fresh calls → HearsTheLine calls
+unfolding scan joined
+demand-3 calls h =
+    let after : After [] (heard calls) (handedOn calls) (receiverAfter fresh calls) = calls-after calls fresh-heard h in
+    record {
+      each = λ earlier c later e.
+          let s = calls-split fresh earlier (c ∷ later) (subst (Calls fresh) e h) in
+          call-right (answers (calls-after earlier fresh-heard (s .0) .heard) (s .1 .1));
+      certain =
+          record {
+            frames = scan 0 0 (heard calls) .frames;
+            rising = scan-rising 0 0 (heard calls);
+            exact = λ place frame. (found-certain (heard calls) place frame, certain-found (heard calls) place frame);
+          };
+      handed = sym (after .frames);
+      kept = heard-most (after .heard);
+    }

@@ -1,0 +1,15 @@
+pub mod Line
+pub mod Reading
+pub mod Places
+pub mod Scan
+pub mod ScanLaws
+pub mod TakenLaws
+pub mod ScanCertain
+pub mod Receiver
+pub mod CallLaws
+pub mod Demand3
+pub mod Drain
+pub mod DrainLaws
+pub mod Verdict
+pub mod VerdictLaws
+pub mod StepLaws

@@ -1,0 +1,45 @@
+-- Document 01, "Reading of the line": symbols, and the document's terms stands, taken and certain. Nothing here speaks of a receiver.
+use Prim.Native.Nat.{ℕ, _+_, _<_}
+use mathlib.Core.Path.{_≡_}
+use mathlib.Core.Logic.{_↔_}
+use mathlib.Core.List.{List, [], _∷_, _++_, map}
+use lib.ListN.{length, take, drop}
+use Rattle.frame.specs.Frame.{Frame}
+
+-- The line is a list of symbols, each a byte or a silence.
+pub data Symbol : Type 0 where
+  byte : ℕ → Symbol
+  silence : Symbol
+
+-- Every byte among the symbols is below 256.
+abbrev pub AllBytes : List Symbol → Type 0
+AllBytes [] = Unit
+AllBytes (byte b ∷ x) = (b < 256) × AllBytes x
+AllBytes (silence ∷ x) = AllBytes x
+
+-- A frame stands at a place if the symbols from there are all the bytes of a frame, with no silence among them.
+pub record Stands (line : List Symbol) (place : ℕ) (frame : List ℕ) : Type 0 where
+  pub whole : Frame frame
+  pub there : take (length frame) (drop place line) ≡ map byte frame
+
+-- A choice says of each place and each frame whether it is taken there.
+abbrev pub Choice : Type 1
+Choice = ℕ → List ℕ → Type 0
+
+-- A taken frame that began earlier covers the place.
+pub record Covered (taken : Choice) (place : ℕ) : Type 0 where
+  pub start : ℕ
+  pub frame : List ℕ
+  pub chosen : taken start frame
+  pub earlier : start < place
+  pub reaches : place < start + length frame
+
+-- The rule: a frame is taken exactly if it stands at its place and no taken frame that began earlier covers that place.
+abbrev pub Keeps : List Symbol → Choice → Type 0
+Keeps line taken =
+    (place : ℕ) (frame : List ℕ) → taken place frame ↔ (Stands line place frame × (Covered taken place → ⊥))
+
+-- A frame is certain after a list of symbols if it is taken, at the same place, in every list that begins with that one.
+abbrev pub Certain : List Symbol → ℕ → List ℕ → Type 1
+Certain heard place frame =
+    (more : List Symbol) → AllBytes more → (taken : Choice) → Keeps (heard ++ more) taken → taken place frame

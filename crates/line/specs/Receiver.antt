@@ -1,0 +1,68 @@
+-- What a call of the receiver answers, and what it leaves: document 01, "Reading of the line" and refusals 16 and 1.
+use Prim.Native.Nat.{ℕ}
+use mathlib.Core.List.{List, [], _∷_, _++_, map}
+use mathlib.Core.Bool.{Bool, true, false}
+use lib.ListN.{length, take, replicate}
+use lib.Dec.{leb}
+use Rattle.frame.specs.Memory.{Outcome, outcome, over, pick}
+use Rattle.frame.specs.Recognition.{recognised}
+use Rattle.frame.specs.declared.Recognised.{Recognised}
+use Rattle.frame.specs.declared.Recognised.the-variants.{Whole, Open, Neither}
+use Rattle.line.specs.Line.{Symbol, byte, silence}
+use Rattle.line.specs.Places.{joined}
+use Rattle.line.specs.Scan.{Reading, scan}
+use Rattle.line.specs.declared.Receiver.{Receiver}
+use Rattle.line.specs.declared.Received.{Received}
+use Rattle.line.specs.declared.Answer.{Answer}
+use Rattle.line.specs.declared.Answer.the-variants.{Refused, Delivered}
+
+-- A fresh receiver has heard nothing.
+unfoldable pub fresh : Receiver
+fresh = record { kept = replicate 211 0; count = 0 }
+
+-- The receiver with this array and this count.
+abbrev pub receiverOf : List ℕ → ℕ → Receiver
+receiverOf kept count = record { kept = kept; count = count }
+
+-- The bytes that a receiver keeps: the first of its array, as many as it counts.
+unfoldable pub keptBytes : Receiver → List ℕ
+keptBytes r = take (r .count) (r .kept)
+
+unfoldable pub isOpen : Recognised → Bool
+isOpen (Whole n) = false
+isOpen Open = true
+isOpen Neither = false
+
+-- The kept bytes are within the array and are a proper beginning of a frame.
+unfoldable pub withinRange : Receiver → Bool
+withinRange r = pick (leb (r .count) 211) (isOpen (recognised (keptBytes r))) false
+
+-- A refusal: its number, and all as before.
+unfoldable pub refused : ℕ → Receiver → List ℕ → Outcome Received
+refused n r m = outcome (record { receiver = r; answer = Refused n }) m
+
+-- What the kept bytes with one symbol more read as.
+unfoldable pub readingWith : Receiver → Symbol → Reading
+readingWith r s = scan 0 0 (map byte (keptBytes r) ++ (s ∷ []))
+
+-- The receiver that keeps these bytes; the rest of its array stays as it was.
+unfoldable pub keeping : List ℕ → Receiver → Receiver
+keeping bytes r = record { kept = over bytes (r .kept); count = length bytes }
+
+-- The frames found are delivered and the rest is kept.
+unfoldable pub delivered : Reading → Receiver → List ℕ → Outcome Received
+delivered d r m =
+    outcome
+    (record {
+      receiver = keeping (d .kept) r;
+      answer = Delivered (length (joined (d .frames))) (length (d .frames));
+    })
+    (over (joined (d .frames)) m)
+
+-- The outcome of a call with a symbol: 16 for a receiver out of its range, then 1 for under 212 bytes of lent memory, else what the
+-- symbol settles.
+unfoldable pub called : Symbol → Receiver → List ℕ → Outcome Received
+called s r m =
+    pick (withinRange r)
+    (pick (leb 212 (length m)) (delivered (readingWith r s) r m) (refused 1 r m))
+    (refused 16 r m)
