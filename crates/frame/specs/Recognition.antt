@@ -10,28 +10,23 @@ use Rattle.frame.specs.Frame.{checksumOf, lengthOf}
 use Rattle.frame.specs.declared.Recognised.{Recognised}
 use Rattle.frame.specs.declared.Recognised.the-variants.{Whole, Open, Neither}
 
+-- One test: open as long as byte i has not come, given up if the test fails, and else what comes next.
+abbrev pub stage : List ℕ → ℕ → Bool → Recognised → Recognised
+stage bytes i test next = pick (leb (length bytes) i) Open (pick test next Neither)
+
 -- From the checksum on, which stands at place n: the checksum, then the last byte.
 unfoldable pub recognisedEnd : List ℕ → ℕ → Recognised
 recognisedEnd bytes n =
-    pick (leb (length bytes) n) Open
-    (pick (eqb (getD bytes n 0) (checksumOf (take n bytes)))
-    (pick (leb (length bytes) (n + 1)) Open
-    (pick (eqb (getD bytes (n + 1) 0) 0x16) (Whole (n + 2)) Neither))
-    Neither)
+    stage bytes n (eqb (getD bytes n 0) (checksumOf (take n bytes)))
+    (stage bytes (n + 1) (eqb (getD bytes (n + 1) 0) 0x16) (Whole (n + 2)))
 
--- From the data length on, of at least ten bytes.
+-- From the data length on.
 unfoldable pub recognisedBody : List ℕ → Recognised
-recognisedBody bytes = pick (leb (lengthOf bytes) 200) (recognisedEnd bytes (10 + lengthOf bytes)) Neither
+recognisedBody bytes = stage bytes 9 (leb (lengthOf bytes) 200) (recognisedEnd bytes (10 + lengthOf bytes))
 
+-- From the first byte on: both start delimiters, and then the rest.
 unfoldable pub recognised : List ℕ → Recognised
-recognised bytes =
-    pick (leb (length bytes) 0) Open
-    (pick (eqb (getD bytes 0 0) 0x68)
-    (pick (leb (length bytes) 7) Open
-    (pick (eqb (getD bytes 7 0) 0x68)
-    (pick (leb (length bytes) 9) Open (recognisedBody bytes))
-    Neither))
-    Neither)
+recognised bytes = stage bytes 0 (eqb (getD bytes 0 0) 0x68) (stage bytes 7 (eqb (getD bytes 7 0) 0x68) (recognisedBody bytes))
 
 -- Whether bytes that begin so are nothing but that frame.
 unfoldable pub isAll : Recognised → ℕ → Bool

@@ -11,8 +11,8 @@ use lib.Seq.{take-all, getD-append-add, getD-drop}
 use lib.Dec.{leb}
 use borrow.Author.Tests.{leb-true, leb-false, eqb-true, eq-eqb}
 use Rattle.frame.specs.Frame.{Frame, frameOf, summed, checksumOf, lengthOf, Bytes}
-use Rattle.frame.specs.Recognition.{recognised, recognisedBody, recognisedEnd, exactlyOne, isAll}
-use Rattle.frame.specs.RecognitionSteps.{stage, stage-cases, stays, Headed, headed-longer, headed-closes, front-closes, closed-whole}
+use Rattle.frame.specs.Recognition.{stage, recognised, recognisedBody, recognisedEnd, exactlyOne, isAll}
+use Rattle.frame.specs.RecognitionSteps.{stage-cases, stays, Headed, headed-longer, headed-closes, front-closes, closed-whole}
 use Rattle.frame.specs.RecognitionSteps.{same-length, summed-size, summed-says, summed-headed, take-next}
 use Rattle.frame.specs.declared.Recognised.{Recognised}
 use Rattle.frame.specs.declared.Recognised.the-variants.{Whole, Open, Neither}

@@ -11,13 +11,9 @@ use lib.Dec.{leb, eqb}
 use borrow.Author.Tests.{leb-true, leb-false, le-leb, lt-leb, eq-eqb}
 use Rattle.frame.specs.Memory.{pick}
 use Rattle.frame.specs.Frame.{Frame, frameOf, summed, checksumOf, addressOf, controlOf, lengthOf}
-use Rattle.frame.specs.Recognition.{recognised, recognisedBody, recognisedEnd}
+use Rattle.frame.specs.Recognition.{stage, recognised, recognisedBody, recognisedEnd}
 use Rattle.frame.specs.declared.Recognised.{Recognised}
 use Rattle.frame.specs.declared.Recognised.the-variants.{Whole, Open, Neither}
-
--- Each test of recognition is a stage: open as long as byte i has not come, given up if the test fails, and else what comes next.
-abbrev pub stage : List ℕ → ℕ → Bool → Recognised → Recognised
-stage x i t next = pick (leb (length x) i) Open (pick t next Neither)
 
 -- What holds of the three ways out of a stage holds of the stage.
 pub stage-cases : (P : Recognised → Type 0) (x : List ℕ) (i : ℕ) (t : Bool) (next : Recognised) →
@@ -28,6 +24,10 @@ stage-cases P x i t next short wrong passed = go (leb (length x) i) t refl refl
     go true u p q = short (leb-true _ _ p)
     go false true p q = passed (leb-false _ _ p) q
     go false false p q = wrong (leb-false _ _ p) q
+
+-- A stage whose byte has not come is open.
+pub stage-open : (x : List ℕ) (i : ℕ) (t : Bool) (next : Recognised) → length x ≤ i → stage x i t next ≡ Open
+stage-open x i t next h = rw (le-leb (length x) i h)
 
 -- A stage whose byte has come is what its test says.
 pub stage-passed : (x : List ℕ) (i : ℕ) {t : Bool} (next : Recognised) → i < length x → t ≡ true → stage x i t next ≡ next

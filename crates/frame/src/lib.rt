@@ -96,18 +96,17 @@ pub fn recognise(bytes: &[u8]) -> Recognised
     if bytes[7] != 0x68 {
         return Recognised::Neither;
     }
-    if n <= 9 {
-        return Recognised::Open;
-    }
     recognise_body(bytes)
 }
 
-// The rest of `recognise`, for at least ten bytes with both start delimiters in place.
+// The rest of `recognise`, from the data length on.
 fn recognise_body(bytes: &[u8]) -> Recognised
-    requires { ⌜ 10 ≤ length (now bytes) ⌝ }
     ensures { λ r. ⌜ r ≡ recognisedBody (now (bytes .entry)) ⌝ }
 {
     let n = bytes.len();
+    if n <= 9 {
+        return Recognised::Open;
+    }
     let data_length = bytes[9];
     if data_length > 200 {
         return Recognised::Neither;

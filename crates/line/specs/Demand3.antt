@@ -6,7 +6,7 @@ use mathlib.Core.Logic.{_↔_}
 use mathlib.Core.List.{List, [], _∷_, _++_, List·Memᴰ}
 use lib.ListN.{length, take}
 use Rattle.frame.specs.Memory.{outcome}
-use Rattle.line.specs.Line.{Symbol, AllBytes, Certain}
+use Rattle.line.specs.Line.{Symbol, Certain}
 use Rattle.line.specs.Places.{Found, Rising, joined}
 use Rattle.line.specs.Scan.{scan}
 use Rattle.line.specs.ScanLaws.{scan-rising}
@@ -31,11 +31,10 @@ abbrev pub receiverAfter : Receiver → List Call → Receiver
 receiverAfter r [] = r
 receiverAfter r (c ∷ cs) = receiverAfter (c .returned .receiver) cs
 
--- Of each call, what its `ensures` says, given the receiver that the last one returned; a symbol is a byte below 256 or a silence.
+-- Of each call, what its `ensures` says, given the receiver that the last one returned.
 abbrev pub Calls : Receiver → List Call → Type 0
 Calls r [] = Unit
-Calls r (c ∷ cs) =
-    AllBytes (c .symbol ∷ []) × (outcome (c .returned) (c .left) ≡ called (c .symbol) r (c .lent)) × Calls (c .returned .receiver) cs
+Calls r (c ∷ cs) = (outcome (c .returned) (c .left) ≡ called (c .symbol) r (c .lent)) × Calls (c .returned .receiver) cs
 
 -- What an answer adds to the line heard: the symbol, unless the call was refused.
 abbrev pub heardBy : Answer → Symbol → List Symbol
@@ -123,14 +122,14 @@ calls-after : {line : List Symbol} {r : Receiver} (calls : List Call) → Heard 
     After line (heard calls) (handedOn calls) (receiverAfter r calls)
 calls-after [] h k = after-none h
 calls-after (c ∷ cs) h k =
-    let a = call-after {c = c} h (answers h (k .1)) in
-    after-then a (calls-after cs (a .heard) (k .2))
+    let a = call-after {c = c} h (answers h (k .0)) in
+    after-then a (calls-after cs (a .heard) (k .1))
 
 -- Of calls joined, the first are calls, and the others are calls of the receiver that the first return.
 calls-split : (r : Receiver) (earlier later : List Call) → Calls r (earlier ++ later) →
     Calls r earlier × Calls (receiverAfter r earlier) later
 calls-split r [] later k = (tt, k)
-calls-split r (c ∷ cs) later k = let s = calls-split (c .returned .receiver) cs later (k .2) in ((k .0, k .1, s .0), s .1)
+calls-split r (c ∷ cs) later k = let s = calls-split (c .returned .receiver) cs later (k .1) in ((k .0, s .0), s .1)
 
 -- Demand 3.
 pub demand-3 : (calls : List Call) → Calls fresh calls → HearsTheLine calls
@@ -140,7 +139,7 @@ demand-3 calls h =
     record {
       each = λ earlier c later e.
           let s = calls-split fresh earlier (c ∷ later) (subst (Calls fresh) e h) in
-          call-right (answers (calls-after earlier fresh-heard (s .0) .heard) (s .1 .1));
+          call-right (answers (calls-after earlier fresh-heard (s .0) .heard) (s .1 .0));
       certain =
           record {
             frames = scan 0 0 (heard calls) .frames;

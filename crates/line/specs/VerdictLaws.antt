@@ -10,8 +10,8 @@ use lib.Seq.{length-take-le, getD-take, getD-at, take-take, take-append-le}
 use lib.Dec.{leb, eqb}
 use borrow.Author.Tests.{le-leb, lt-leb, eq-eqb, ne-eqb}
 use Rattle.frame.specs.Frame.{checksumOf, lengthOf}
-use Rattle.frame.specs.Recognition.{recognised, recognisedBody, recognisedEnd}
-use Rattle.frame.specs.RecognitionSteps.{stage, stage-passed, stage-wrong}
+use Rattle.frame.specs.Recognition.{stage, recognised, recognisedBody, recognisedEnd}
+use Rattle.frame.specs.RecognitionSteps.{stage-open, stage-passed, stage-wrong}
 use Rattle.frame.specs.declared.Recognised.{Recognised}
 use Rattle.frame.specs.declared.Recognised.the-variants as found
 use Rattle.line.specs.Receiver.{withinRange, keptBytes, isOpen, receiverOf}
@@ -60,10 +60,6 @@ module _ (kept : List ℕ) (n : ℕ) (z : List ℕ) (w : Agrees kept n z) where
   past-sum m h e s =
       let l : n ≤ length z = w .long in
       e ∙ stage-passed z m _ (omega arith) (eq-eqb _ _ (w .at m h ∙ s ∙ ap checksumOf (sym (w .front m (omega arith)))))
-
--- A stage whose byte has not come is open.
-pub stage-open : (x : List ℕ) (i : ℕ) (t : Bool) (next : Recognised) → length x ≤ i → stage x i t next ≡ found.Open
-stage-open x i t next h = rw (le-leb (length x) i h)
 
 -- The kept bytes, and those with one byte more, agree with the array.
 module _ (kept : List ℕ) (n b : ℕ) (fits : n ≤ length kept) where

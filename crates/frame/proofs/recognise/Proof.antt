@@ -38,6 +38,9 @@ returns-4 c =
     let at-if3 = c .before .before in
     simp (begun (at-if3 .before .before .before), eq-eqb _ _ (at-if3 .before .if2 .left), lt-leb _ _ (at-if3 .if3 .left), ne-eqb _ _ (c .if4 .taken))
 
+recognise-body-requires : tie.Need-recognise-body-requires
+recognise-body-requires c κs = search needs
+
 returns-5 : tie.Need-returns-5
 unfolding recognised
 returns-5 c =
@@ -47,22 +50,6 @@ returns-5 c =
       eq-eqb _ _ (at-if3 .before .if2 .left),
       lt-leb _ _ (at-if3 .if3 .left),
       eq-eqb _ _ (c .before .if4 .left),
-      le-leb _ _ (c .if5 .taken),
-    )
-
-recognise-body-requires : tie.Need-recognise-body-requires
-recognise-body-requires c κs = search needs
-
-returns-6 : tie.Need-returns-6
-unfolding recognised
-returns-6 c =
-    let at-if3 = c .before .before .before .before in
-    simp (
-      begun (at-if3 .before .before .before),
-      eq-eqb _ _ (at-if3 .before .if2 .left),
-      lt-leb _ _ (at-if3 .if3 .left),
-      eq-eqb _ _ (c .before .before .if4 .left),
-      lt-leb _ _ (c .before .if5 .left),
     ) (c .recognise-body .ensures)
 
 pub recognise-spec : {M : Type 1} → statement M
@@ -75,6 +62,5 @@ recognise-spec =
     returns-3
     shared-slice-read-if4
     returns-4
-    returns-5
     recognise-body-requires
-    returns-6)
+    returns-5)
