@@ -8,6 +8,7 @@ use native.Mathlib.Omega.{arith}
 use Rattle.frame.specs.Laws.{summed-length, address-part, control-part, length-part, field-part}
 use Rattle.frame.specs.Writing.{frameFor}
 
+-- What is masked and unmasked, or the other way round, is as it was.
 pub unmasked-masked : (b : ℕ) → b < 256 → unmasked (masked b) ≡ b
 unfolding masked unmasked
 unmasked-masked b h = omega arith
@@ -16,13 +17,16 @@ pub masked-unmasked : (b : ℕ) → b < 256 → masked (unmasked b) ≡ b
 unfolding masked unmasked
 masked-unmasked b h = omega arith
 
+-- A function that undoes another on every byte undoes it on every list of bytes.
+undone-all : (f g : ℕ → ℕ) → ((b : ℕ) → b < 256 → g (f b) ≡ b) → (xs : List ℕ) → Bytes xs → map g (map f xs) ≡ xs
+undone-all f g e [] h = refl
+undone-all f g e (x ∷ xs) h = rw (e x (h .0), undone-all f g e xs (h .1))
+
 pub unmasked-masked-all : (xs : List ℕ) → Bytes xs → map unmasked (map masked xs) ≡ xs
-unmasked-masked-all [] h = refl
-unmasked-masked-all (x ∷ xs) h = rw (unmasked-masked x (h .0), unmasked-masked-all xs (h .1))
+unmasked-masked-all = undone-all masked unmasked unmasked-masked
 
 pub masked-unmasked-all : (xs : List ℕ) → Bytes xs → map masked (map unmasked xs) ≡ xs
-masked-unmasked-all [] h = refl
-masked-unmasked-all (x ∷ xs) h = rw (masked-unmasked x (h .0), masked-unmasked-all xs (h .1))
+masked-unmasked-all = undone-all unmasked masked masked-unmasked
 
 -- A frame has twelve bytes besides its data field.
 pub frame-length : (address : List ℕ) (control : ℕ) (field : List ℕ) → length address ≡ 6 → length (frameOf address control field) ≡ 12 + length field

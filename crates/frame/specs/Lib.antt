@@ -1,4 +1,5 @@
 pub mod Memory
+pub mod Refusals
 pub mod Frame
 pub mod Recognition
 pub mod Writing

@@ -3,24 +3,26 @@
 use Prim.Native.Nat.{ℕ, zero, suc, _+_, _-_, _≤_, _<_}
 use native.Mathlib.Omega.{arith}
 use native.Mathlib.Nat.{mod-lt}
-use mathlib.Core.Path.{_≡_, refl, subst, _∙_}
+use mathlib.Core.Path.{_≡_, refl, ap, subst, _∙_}
 use mathlib.Core.Bool.{Bool, true, false}
-use mathlib.Core.List.{List, [], _∷_, _++_, append-assoc}
-use lib.ListN.{length, getD, take, drop, replicate, length-append, length-drop, length-replicate, List·getD-append}
+use mathlib.Core.List.{List, [], _∷_, _++_, map, append-assoc}
+use lib.ListN.{length, getD, take, drop, replicate, length-append, length-drop, length-replicate, length-map, List·getD-append}
 use lib.Seq.{take-all, getD-append-add, getD-drop}
 use lib.Dec.{leb}
 use borrow.Author.Tests.{leb-true, leb-false, eqb-true, eq-eqb}
-use Rattle.frame.specs.Frame.{Frame, frameOf, summed, checksumOf, lengthOf, Bytes}
+use Rattle.frame.specs.Frame.{Frame, frameOf, summed, checksumOf, lengthOf, masked, Bytes}
+use Rattle.frame.specs.Laws.{summed-length}
+use Rattle.frame.specs.FrameLaws.{frame-length, frame-for}
+use Rattle.frame.specs.Writing.{frameFor}
 use Rattle.frame.specs.Recognition.{stage, recognised, recognisedBody, recognisedEnd, exactlyOne, isAll}
 use Rattle.frame.specs.RecognitionSteps.{stage-cases, stays, Headed, headed-longer, headed-closes, front-closes, closed-whole}
-use Rattle.frame.specs.RecognitionSteps.{same-length, summed-size, summed-says, summed-headed, take-next}
+use Rattle.frame.specs.RecognitionSteps.{same-length, summed-says, summed-headed, take-next}
 use Rattle.frame.specs.declared.Recognised.{Recognised}
 use Rattle.frame.specs.declared.Recognised.the-variants.{Whole, Open, Neither}
 
 -- A frame has 12 to 212 bytes.
 frame-size : {f : List ℕ} (w : Frame f) → length f ≡ 12 + length (w .field)
-unfolding frameOf
-frame-size {f} w = rw (w .made) (simp (length-append, summed-size (w .address) (w .control) (w .field) (w .six)) (omega arith))
+frame-size {f} w = rw (w .made) (frame-length (w .address) (w .control) (w .field) (w .six))
 
 pub frame-least : {f : List ℕ} → Frame f → 12 ≤ length f
 frame-least {f} w = omega (arith, frame-size w)
@@ -41,7 +43,7 @@ unfolding frameOf
 frame-alone {f} w =
     let s : List ℕ = summed (w .address) (w .control) (w .field) in
     let says : lengthOf s ≡ length (w .field) = summed-says (w .address) (w .control) (w .field) (w .six) in
-    let size : length s ≡ 10 + lengthOf s = rw says (summed-size (w .address) (w .control) (w .field) (w .six)) in
+    let size : length s ≡ 10 + lengthOf s = rw says (summed-length (w .address) (w .control) (w .field) (w .six)) in
     rw (w .made) (closed-whole s (summed-headed (w .address) (w .control) (w .field) (w .six) (w .most)) size)
 
 pub frame-whole : (f more : List ℕ) → Frame f → recognised (f ++ more) ≡ Whole (length f)
@@ -202,3 +204,11 @@ one-frame x = go (recognised x) refl
 pub frame-one : (x : List ℕ) → Frame x → exactlyOne x ≡ true
 unfolding exactlyOne isAll
 frame-one x w = rw (frame-alone w) (eq-eqb (length x) _ refl)
+
+-- A written frame is recognised, whatever follows.
+pub written-whole : (address : List ℕ) (control : ℕ) (meant more : List ℕ) → length address ≡ 6 → length meant ≤ 200 →
+    recognised (frameFor address control meant ++ more) ≡ Whole (12 + length meant)
+unfolding frameFor
+written-whole address control meant more h k =
+    frame-whole (frameFor address control meant) more (frame-for address control meant h k)
+    ∙ ap Whole (frame-length address control (map masked meant) h ∙ ap (λ (n : ℕ). 12 + n) (length-map meant masked))

@@ -11,6 +11,7 @@ use lib.Dec.{leb, eqb}
 use borrow.Author.Tests.{leb-true, leb-false, le-leb, lt-leb, eq-eqb}
 use Rattle.frame.specs.Memory.{pick}
 use Rattle.frame.specs.Frame.{Frame, frameOf, summed, checksumOf, addressOf, controlOf, lengthOf}
+use Rattle.frame.specs.Laws.{summed-length}
 use Rattle.frame.specs.Recognition.{stage, recognised, recognisedBody, recognisedEnd}
 use Rattle.frame.specs.declared.Recognised.{Recognised}
 use Rattle.frame.specs.declared.Recognised.the-variants.{Whole, Open, Neither}
@@ -143,12 +144,8 @@ module _ (x more : List ℕ) where
       stage-stays x more 7 _ _ _ _ (same-test 0x68 7) (λ h7.
       stage-stays x more 9 _ _ _ _ (λ h. ap (λ (l : ℕ). leb l 200) (same-length x more h)) body-stays))
 
--- A frame's bytes up to the checksum: how many they are, the data length that they say, and that they are headed.
+-- A frame's bytes up to the checksum: the data length that they say, and that they are headed.
 module _ (address : List ℕ) (control : ℕ) (field : List ℕ) (six : length address ≡ 6) where
-  pub summed-size : length (summed address control field) ≡ 10 + length field
-  unfolding summed
-  summed-size = simp length-append (omega arith)
-
   pub summed-says : lengthOf (summed address control field) ≡ length field
   unfolding summed lengthOf
   summed-says = rw six at (getD-append-add (0x68 ∷ address) (0x68 ∷ control ∷ length field ∷ field) 2 0)
@@ -157,7 +154,7 @@ module _ (address : List ℕ) (control : ℕ) (field : List ℕ) (six : length a
   unfolding summed
   summed-headed h =
       record {
-        ten = rw summed-size (omega arith);
+        ten = rw (summed-length address control field six) (omega arith);
         first = refl;
         eighth = getD-at (0x68 ∷ address) 0x68 (control ∷ length field ∷ field) 0 7 (rw six);
         most = rw summed-says h;

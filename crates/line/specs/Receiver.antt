@@ -5,6 +5,7 @@ use mathlib.Core.Bool.{Bool, true, false}
 use lib.ListN.{length, take, replicate}
 use lib.Dec.{leb}
 use Rattle.frame.specs.Memory.{Outcome, outcome, over, pick}
+use Rattle.frame.specs.Refusals.{shortMemory, outOfRange}
 use Rattle.frame.specs.Recognition.{recognised}
 use Rattle.frame.specs.declared.Recognised.{Recognised}
 use Rattle.frame.specs.declared.Recognised.the-variants.{Whole, Open, Neither}
@@ -64,5 +65,5 @@ delivered d r m =
 unfoldable pub called : Symbol → Receiver → List ℕ → Outcome Received
 called s r m =
     pick (withinRange r)
-    (pick (leb 212 (length m)) (delivered (readingWith r s) r m) (refused 1 r m))
-    (refused 16 r m)
+    (pick (leb 212 (length m)) (delivered (readingWith r s) r m) (refused shortMemory r m))
+    (refused outOfRange r m)

@@ -3,6 +3,8 @@
 mod drain;
 mod verdict;
 
+use frame::refusal::OUT_OF_RANGE;
+use frame::refusal::SHORT_MEMORY;
 use verdict::Verdict;
 ghost use mathlib.Core.Path.{_≡_};
 ghost use Rattle.frame.specs.Memory.{outcome};
@@ -53,10 +55,10 @@ impl Receiver {
         };
         match v {
             Verdict::Bad => {
-                answer = Answer::Refused(16);
+                answer = Answer::Refused(OUT_OF_RANGE);
             }
             Verdict::Short => {
-                answer = Answer::Refused(1);
+                answer = Answer::Refused(SHORT_MEMORY);
             }
             Verdict::Skips => {}
             Verdict::Grows => {
@@ -94,13 +96,13 @@ impl Receiver {
         if !verdict::within_range(&self.kept, count) {
             return Received {
                 receiver: self,
-                answer: Answer::Refused(16),
+                answer: Answer::Refused(OUT_OF_RANGE),
             };
         }
         if out.len() < 212 {
             return Received {
                 receiver: self,
-                answer: Answer::Refused(1),
+                answer: Answer::Refused(SHORT_MEMORY),
             };
         }
         let d = drain::give_up(&self.kept, count, out);
