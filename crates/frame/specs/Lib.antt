@@ -8,3 +8,4 @@ pub mod Laws
 pub mod FrameLaws
 pub mod RecognitionSteps
 pub mod RecognitionLaws
+pub mod Examples

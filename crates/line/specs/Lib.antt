@@ -13,3 +13,4 @@ pub mod DrainLaws
 pub mod Verdict
 pub mod VerdictLaws
 pub mod StepLaws
+pub mod Examples

@@ -98,7 +98,8 @@ unfolding recognisedBody recognisedEnd lengthOf
 returns-6 c =
     let at-if3 = c .before .before .before .before .before .before in
     simp (
-      ten (at-if3 .before .before .before), few (at-if3 .before),
+      ten (at-if3 .before .before .before),
+      few (at-if3 .before),
       lt-leb _ _ (at-if3 .if3 .left),
       eq-eqb _ _ (right (c .before)),
       le-leb _ _ (c .if7 .taken),
@@ -120,7 +121,8 @@ unfolding recognisedBody recognisedEnd lengthOf
 returns-7 c =
     let at-if3 = c .before .before .before .before .before .before in
     simp (
-      ten (at-if3 .before .before .before), few (at-if3 .before),
+      ten (at-if3 .before .before .before),
+      few (at-if3 .before),
       lt-leb _ _ (at-if3 .if3 .left),
       eq-eqb _ _ (right (c .before)),
       lt-leb _ _ (c .if7 .left),
