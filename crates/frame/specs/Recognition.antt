@@ -2,7 +2,7 @@
 -- checksum is wrong, the last byte is not 16. `RecognitionLaws` shows what this means in terms of `Frame`.
 use Prim.Native.Nat.{ℕ, _+_}
 use mathlib.Core.List.{List}
-use mathlib.Core.Bool.{Bool, true, false}
+use mathlib.Core.Bool.{Bool, false}
 use lib.ListN.{length, getD, take}
 use lib.Dec.{leb, eqb}
 use Rattle.frame.specs.Memory.{pick}

@@ -3,15 +3,15 @@
 use Prim.Native.Nat.{ℕ, zero, suc, _+_, _-_, _≤_, _<_}
 use native.Mathlib.Omega.{arith}
 use native.Mathlib.Nat.{mod-lt}
-use mathlib.Core.Path.{_≡_, refl, ap, subst, _∙_}
+use mathlib.Core.Path.{_≡_, refl, sym, ap, subst, _∙_}
 use mathlib.Core.Bool.{Bool, true, false}
-use mathlib.Core.List.{List, [], _∷_, _++_, map, append-assoc}
+use mathlib.Core.List.{List, [], _∷_, _++_, map, append-assoc, append-nil}
 use lib.ListN.{length, getD, take, drop, replicate, length-append, length-drop, length-replicate, length-map, List·getD-append}
 use lib.Seq.{take-all, getD-append-add, getD-drop}
 use lib.Dec.{leb}
 use borrow.Author.Tests.{leb-true, leb-false, eqb-true, eq-eqb}
 use Rattle.frame.specs.Frame.{Frame, frameOf, summed, checksumOf, lengthOf, masked, Bytes}
-use Rattle.frame.specs.Laws.{summed-length}
+use Rattle.frame.specs.Laws.{summed-length, length-part}
 use Rattle.frame.specs.FrameLaws.{frame-length, frame-for}
 use Rattle.frame.specs.Writing.{frameFor}
 use Rattle.frame.specs.Recognition.{stage, recognised, recognisedBody, recognisedEnd, exactlyOne, isAll}
@@ -23,6 +23,13 @@ use Rattle.frame.specs.declared.Recognised.the-variants.{Whole, Open, Ne
 -- A frame has 12 to 212 bytes.
 frame-size : {f : List ℕ} (w : Frame f) → length f ≡ 12 + length (w .field)
 frame-size {f} w = rw (w .made) (frame-length (w .address) (w .control) (w .field) (w .six))
+
+-- A frame has as many bytes as its data length says.
+pub frame-spans : {f : List ℕ} → Frame f → length f ≡ 12 + lengthOf f
+frame-spans {f} w =
+    let whole : frameOf (w .address) (w .control) (w .field) ++ [] ≡ f = append-nil (frameOf (w .address) (w .control) (w .field)) ∙ sym (w .made) in
+    let says : lengthOf f ≡ length (w .field) = rw whole at (length-part (w .address) (w .control) (w .field) [] (w .six)) in
+    rw says (frame-size w)
 
 pub frame-least : {f : List ℕ} → Frame f → 12 ≤ length f
 frame-least {f} w = omega (arith, frame-size w)

@@ -5,7 +5,7 @@ pub mod refusal;
 ghost use mathlib.Core.Path.{_≡_};
 ghost use mathlib.Core.List.{map, _∷_, _++_, []};
 ghost use Prim.Native.Nat.{_+_, _≤_};
-ghost use lib.ListN.{length, take, drop};
+ghost use lib.ListN.{length, take};
 ghost use Rattle.frame.specs.Frame.{checksumOf, masked, unmasked};
 ghost use Rattle.frame.specs.Memory.{outcome, over};
 ghost use Rattle.frame.specs.Recognition.{recognised, recognisedBody, exactlyOne};

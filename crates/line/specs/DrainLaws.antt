@@ -1,20 +1,20 @@
 -- How the reading of bytes goes on, by what they begin with.
 use Prim.Native.Nat.{ℕ, zero, suc, _+_, _-_, _≤_, _<_, zero-le}
 use mathlib.Core.Path.{_≡_, refl, ap, sym, _∙_}
-use mathlib.Core.List.{List, [], _∷_, _++_, map, append-nil, append-assoc}
+use mathlib.Core.List.{List, [], _∷_, _++_, append-nil, append-assoc}
 use mathlib.Core.Bool.{Bool, true, false}
 use native.Mathlib.Omega.{arith}
 use native.Mathlib.Nat.{le-refl, sub-zero, zero-sub, suc-sub-suc, not-suc-le-zero, le-of-suc-le-suc, add-zero, add-suc, suc-add}
 use native.Mathlib.Numerals.{add-one, sub-one}
-use lib.ListN.{length, take, drop, set, getD, length-append, length-drop, drop-of-length-le}
-use lib.Seq.{drop-cons, set-at, append-snoc, take-nil, take-all, take-append-seam, drop-append-seam, drop-drop, take-length, drop-length, length-take-le}
+use lib.ListN.{length, take, drop, length-append, length-drop, drop-of-length-le}
+use lib.Seq.{take-nil, take-all, drop-drop, take-length, length-take-le}
 use Rattle.frame.specs.Memory.{over}
 use Rattle.frame.specs.MemoryLaws.{over-length, lent-over}
 use Rattle.frame.specs.Recognition.{recognised}
 use Rattle.frame.specs.RecognitionLaws.{empty-open, whole-within, whole-frame, frame-least}
 use Rattle.frame.specs.declared.Recognised.{Recognised}
 use Rattle.frame.specs.declared.Recognised.the-variants.{Whole, Open, Neither}
-use Rattle.line.specs.Line.{Symbol, byte, silence}
+use Rattle.line.specs.Line.{byte}
 use Rattle.line.specs.Places.{Found, joined}
 use Rattle.line.specs.Scan.{Reading, scan, begins, bytesBefore, broken, settled, readingBy, before}
 use Rattle.line.specs.Drain.{symbols, readingFrom, behind, Drains, Settles}

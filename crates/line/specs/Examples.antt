@@ -1,14 +1,12 @@
 -- Document 01's lines F to I, and what the scan computes on them.
-use Prim.Native.Nat.{ℕ}
 use mathlib.Core.Path.{_≡_, refl}
-use mathlib.Core.List.{List, [], _∷_, _++_, map}
+use mathlib.Core.List.{[], _∷_, _++_, map}
 use lib.ListN.{take}
 use Rattle.frame.specs.Frame.{total, checksumOf, lengthOf}
 use Rattle.frame.specs.Recognition.{recognised, recognisedBody, recognisedEnd}
-use Rattle.frame.specs.Examples.{caseA, caseC, caseI}
-use Rattle.line.specs.Line.{Symbol, byte, silence}
-use Rattle.line.specs.Places.{Found}
-use Rattle.line.specs.Scan.{Reading, scan, readingBy, before, begins, settled, broken, bytesBefore}
+use Rattle.frame.specs.Examples.{caseA, caseI}
+use Rattle.line.specs.Line.{byte, silence}
+use Rattle.line.specs.Scan.{scan, readingBy, before, begins, settled, broken, bytesBefore}
 
 -- Wake-up bytes and then A: A, at place 4.
 woken : scan 0 0 (map byte (0xFE ∷ 0xFE ∷ 0xFE ∷ 0xFE ∷ caseA)) ≡ record { frames = record { place = 4; frame = caseA } ∷ []; kept = [] }

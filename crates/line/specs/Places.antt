@@ -1,6 +1,6 @@
 -- Lists of frames with the places where they stand.
 use Prim.Native.Nat.{ℕ, _<_}
-use mathlib.Core.List.{List, [], _∷_, _++_, List·Memᴰ}
+use mathlib.Core.List.{List, [], _∷_, _++_}
 
 -- A frame and the place of its first byte.
 pub record Found : Type 0 where

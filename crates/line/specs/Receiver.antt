@@ -9,12 +9,11 @@ use Rattle.frame.specs.Refusals.{shortMemory, outOfRange}
 use Rattle.frame.specs.Recognition.{recognised}
 use Rattle.frame.specs.declared.Recognised.{Recognised}
 use Rattle.frame.specs.declared.Recognised.the-variants.{Whole, Open, Neither}
-use Rattle.line.specs.Line.{Symbol, byte, silence}
+use Rattle.line.specs.Line.{Symbol, byte}
 use Rattle.line.specs.Places.{joined}
 use Rattle.line.specs.Scan.{Reading, scan}
 use Rattle.line.specs.declared.Receiver.{Receiver}
 use Rattle.line.specs.declared.Received.{Received}
-use Rattle.line.specs.declared.Answer.{Answer}
 use Rattle.line.specs.declared.Answer.the-variants.{Refused, Delivered}
 
 -- A fresh receiver has heard nothing.

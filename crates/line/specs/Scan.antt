@@ -1,9 +1,9 @@
 -- A scan of the line from the left, which computes: where a whole frame stands, it is found and passed over; where what is left may
 -- still become a frame, the scan stops and keeps it; any other symbol is dropped. `ScanLaws` shows that it finds the certain frames.
 use Prim.Native.Nat.{ℕ, zero, suc, _-_}
-use mathlib.Core.List.{List, [], _∷_, _++_, map}
+use mathlib.Core.List.{List, [], _∷_}
 use mathlib.Core.Bool.{Bool, true, false}
-use lib.ListN.{length, take}
+use lib.ListN.{take}
 use Rattle.frame.specs.Recognition.{recognised}
 use Rattle.frame.specs.declared.Recognised.{Recognised}
 use Rattle.frame.specs.declared.Recognised.the-variants.{Whole, Open, Neither}

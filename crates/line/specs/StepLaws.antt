@@ -1,21 +1,20 @@
 -- What a call comes to, by what the kept bytes and the symbol are: the cases of `called` that the receiver's code tells apart.
 use Prim.Native.Nat.{ℕ, _+_, _≤_, _<_}
 use mathlib.Core.Path.{_≡_, refl, sym, ap, _∙_}
-use mathlib.Core.List.{List, [], _∷_, _++_, map, append-nil, map-append}
+use mathlib.Core.List.{List, [], _∷_, _++_, append-nil, map-append}
 use mathlib.Core.Bool.{Bool, true, false}
 use native.Mathlib.Omega.{arith}
 use lib.ListN.{length, take, drop, set, length-append, drop-of-length-le}
 use lib.Seq.{take-all, length-take-le}
 use lib.Dec.{leb}
-use borrow.Author.Tests.{le-leb, lt-leb, leb-true, leb-false}
+use borrow.Author.Tests.{le-leb, lt-leb, leb-true}
 use Rattle.frame.specs.Memory.{Outcome, outcome, over, pick}
 use Rattle.frame.specs.MemoryLaws.{over-next, over-itself}
 use Rattle.frame.specs.Recognition.{recognised}
 use Rattle.frame.specs.RecognitionLaws.{open-most}
-use Rattle.frame.specs.declared.Recognised.{Recognised}
 use Rattle.frame.specs.declared.Recognised.the-variants.{Whole, Open, Neither}
 use Rattle.line.specs.Line.{Symbol, byte, silence}
-use Rattle.line.specs.Places.{Found, joined}
+use Rattle.line.specs.Places.{joined}
 use Rattle.line.specs.Scan.{Reading, before, settled}
 use Rattle.line.specs.Receiver.{keptBytes, isOpen, withinRange, refused, readingWith, keeping, delivered, called}
 use Rattle.line.specs.Drain.{symbols, readingFrom, Drains, Settles}

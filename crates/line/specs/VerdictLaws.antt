@@ -16,7 +16,7 @@ use Rattle.frame.specs.declared.Recognised.{Recognised}
 use Rattle.frame.specs.declared.Recognised.the-variants as found
 use Rattle.line.specs.Receiver.{withinRange, keptBytes, isOpen, receiverOf}
 use Rattle.line.specs.Verdict.{Judges, keptWith, Headed}
-use Rattle.line.specs.declared.verdict.Verdict.the-variants.{Bad, Short, Skips, Grows, Whole, Falls}
+use Rattle.line.specs.declared.verdict.Verdict.the-variants.{Bad, Skips, Grows, Whole, Falls}
 
 -- A list has the array's first n bytes in front.
 pub record Agrees (kept : List ℕ) (n : ℕ) (z : List ℕ) : Type 0 where

@@ -1,17 +1,16 @@
 -- Each arm of the match is a case of `called`: what `decide` says of the verdict is what the law of that case asks.
 use Prim.Native.Nat.{ℕ, _+_, _≤_}
-use mathlib.Core.Path.{_≡_, sym, subst}
+use mathlib.Core.Path.{_≡_, subst}
 use native.Mathlib.Omega.{arith}
 use borrow.Author.Needs.{needs}
-use lib.ListN.{length, length-append}
-use lib.Seq.{length-take-le}
+use lib.ListN.{length}
 use Rattle.frame.specs.RecognitionLaws.{open-most}
 use Rattle.line.specs.Receiver.{keptBytes}
 use Rattle.line.specs.Verdict.{Decides}
 use Rattle.line.specs.VerdictLaws.{with-length}
 use Rattle.line.specs.StepLaws.{within-most, call-bad, call-short, call-skips, call-grows, call-whole, call-falls}
 use Rattle.line.specs.Line.{byte}
-use Rattle.line.specs.declared.verdict.Verdict.the-variants.{Bad, Short, Skips, Grows, Whole, Falls}
+use Rattle.line.specs.declared.verdict.Verdict.the-variants.{Short, Skips, Grows, Whole, Falls}
 use Rattle.line.proofs.Receiver.byte.Statement.{statement}
 use Rattle.line.proofs.Receiver.byte.Tie as tie
 

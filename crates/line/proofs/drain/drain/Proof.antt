@@ -1,25 +1,20 @@
-use Prim.Native.Nat.{ℕ, zero, suc, _≤_, _<_, _+_, _-_, _*_, _%_, _/_, _^_}
-use mathlib.Core.Path.{_≡_, refl, ap, sym, _∙_, subst}
+-- The invariant is `Draining`: each way through a turn is one of its laws, and each way out makes it `Drains`. The measure is what is
+-- left of the line.
+use Prim.Native.Nat.{ℕ, _≤_, _+_, _-_}
+use mathlib.Core.Path.{_≡_, ap, sym, _∙_, subst}
 use borrow.Rule.Slice.PartMut.{putMid}
 use Rattle.line.specs.Scan.{settled}
-use Rattle.frame.specs.RecognitionLaws.{whole-within}
-use mathlib.Core.Logic.{⊎-elim}
-use mathlib.Core.Bool.{Bool, true, false}
-use mathlib.Core.List.{List, [], _∷_, _++_}
+use mathlib.Core.List.{List}
 use native.Mathlib.Omega.{arith}
 use borrow.Author.Needs.{needs}
 use borrow.Author.Tests.{not-true, not-false}
-use lib.ListN.{length, take, drop, getD, set, length-take, length-drop}
+use lib.ListN.{length, take, drop, length-take, length-drop}
 use Rattle.frame.specs.Memory.{over}
 use Rattle.frame.specs.Recognition.{recognised}
-use Rattle.frame.specs.declared.Recognised.the-variants.{Whole, Open, Neither}
+use Rattle.frame.specs.declared.Recognised.the-variants.{Whole}
 use Rattle.line.specs.DrainLaws.{rest-part, copied, Draining, draining-start, draining-next, draining-whole, draining-end, draining-open, draining-closed, whole-fits, whole-least}
 use Rattle.line.proofs.drain.drain.Statement.{statement}
 use Rattle.line.proofs.drain.drain.Tie as tie
-use Rattle.line.proofs.drain.drain.Reads as reads
-use Rattle.line.proofs.drain.drain.Lts as lts
-use Rattle.bytes.proofs.copy.Reads as copy-reads
-use Rattle.frame.proofs.recognise.Reads as recognise-reads
 
 abbrev Inv-loop : tie.InvT-loop
 Inv-loop line start closed out₀ n at₀ written₀ frames₀ out at written frames = Draining line start closed out₀ out at written frames
@@ -48,85 +43,66 @@ fits c = whole-fits _ _ _ _ _ _ _ _ (c .before .before .before .before .before .
 least : (c : tie.After-known-told Inv-loop μ-loop) → 12 ≤ size c
 least c = whole-least _ _ _ _ _ _ _ _ (c .before .before .before .before .before .before .loop .inv) (size c) (whole c)
 
--- src/drain.rt:36:5
 loop-holds : tie.Need-loop-holds Inv-loop μ-loop
 loop-holds c = draining-start _ _ _ _ (c .before .before .pre .0)
 
--- src/drain.rt:37:38
 sub-recognise : tie.Need-sub-recognise Inv-loop μ-loop
 sub-recognise c = search needs
 
--- src/drain.rt:37:38
 part-recognise-start : tie.Need-part-recognise-start Inv-loop μ-loop
 part-recognise-start c = search needs
 
--- src/drain.rt:37:38
 part-recognise-end : tie.Need-part-recognise-end Inv-loop μ-loop
 part-recognise-end c = search needs
 
--- src/drain.rt:37:13
 recognise-requires : tie.Need-recognise-requires Inv-loop μ-loop
 recognise-requires c κs = search needs
 
--- src/drain.rt:39:38
 enum-known-found : tie.Need-enum-known-found Inv-loop μ-loop
 enum-known-found c = search needs
 
--- src/drain.rt:40:39
 add-copy : tie.Need-add-copy Inv-loop μ-loop
 add-copy c = omega (arith, fits c, c .before .before .before .before .before .before .before .before .before .good .0 .0)
 
--- src/drain.rt:40:29
 sub-copy : tie.Need-sub-copy Inv-loop μ-loop
 sub-copy c = search needs
 
--- src/drain.rt:40:29
 part-copy-start : tie.Need-part-copy-start Inv-loop μ-loop
 part-copy-start c = search needs
 
--- src/drain.rt:40:29
 part-copy-end : tie.Need-part-copy-end Inv-loop μ-loop
 part-copy-end c = fits c
 
--- src/drain.rt:40:48
 sub-copy-2 : tie.Need-sub-copy-2 Inv-loop μ-loop
 sub-copy-2 c = search needs
 
--- src/drain.rt:40:48
 part-copy-start-2 : tie.Need-part-copy-start-2 Inv-loop μ-loop
 part-copy-start-2 c = search needs
 
--- src/drain.rt:40:48
 part-copy-end-2 : tie.Need-part-copy-end-2 Inv-loop μ-loop
 part-copy-end-2 c = search needs
 
--- src/drain.rt:40:17
 copy-requires : tie.Need-copy-requires Inv-loop μ-loop
 copy-requires c κs = simp (length-take, length-drop) (omega (arith, fits (c .before .before)))
 
--- src/drain.rt:41:17
 add-written : tie.Need-add-written Inv-loop μ-loop
 add-written c =
     let k = c .before .before .before .before .before in
     omega (arith, fits k, k .before .before .before .before .before .before .loop .inv .room, k .before .before .before .before .before .before .before .before .before .good .0 .0)
 
--- src/drain.rt:42:17
 add-frames : tie.Need-add-frames Inv-loop μ-loop
 add-frames c = search needs
 
--- src/drain.rt:43:17
 add-at : tie.Need-add-at Inv-loop μ-loop
 add-at c =
     let k = c .before .before .before .before .before in
     omega (arith, fits k, k .before .before .before .before .before .before .before .before .before .good .0 .0)
 
--- src/drain.rt:36:5
 loop-less : tie.Need-loop-less Inv-loop μ-loop
 loop-less c =
     let k = c .before .before .before .before .before in
     omega (arith, fits k, least k)
 
--- src/drain.rt:36:5
 loop-again : tie.Need-loop-again Inv-loop μ-loop
 loop-again c =
     let k = c .before .before .before .before .before in
@@ -142,58 +118,46 @@ loop-again c =
     (sym e)
     (draining-whole _ _ _ _ _ _ _ _ (l .loop .inv) n (whole k) (l .before .before .before .pre .1))
 
--- src/drain.rt:46:20
 enum-told : tie.Need-enum-told Inv-loop μ-loop
 enum-told c = search needs
 
--- src/drain.rt:47:21
 same-length : tie.Need-same-length Inv-loop μ-loop
 same-length c = search needs
 
--- src/drain.rt:47:21
 returns : tie.Need-returns Inv-loop μ-loop
 returns c =
     let r = c .before .before .before in
     draining-open _ _ _ _ _ _ _ _ (r .before .before .before .loop .inv) (not-true _ (c .if1 .taken)) (sym (seen r) ∙ c .before .enum-told .given .1)
 
--- src/drain.rt:53:17
 add-at-2 : tie.Need-add-at-2 Inv-loop μ-loop
 add-at-2 c = search needs
 
--- src/drain.rt:36:5
 loop-less-2 : tie.Need-loop-less-2 Inv-loop μ-loop
 loop-less-2 c = search needs
 
--- src/drain.rt:36:5
 loop-again-2 : tie.Need-loop-again-2 Inv-loop μ-loop
 loop-again-2 c =
     let r = c .before .before .before in
     draining-closed _ _ _ _ _ _ _ _ (r .before .before .before .loop .inv) (r .before .before .loop-test .taken) (not-false _ (c .if1 .left)) (sym (seen r) ∙ c .before .enum-told .given .1)
 
--- src/drain.rt:56:17
 enum-told-2 : tie.Need-enum-told-2 Inv-loop μ-loop
 enum-told-2 c = search needs
 
--- src/drain.rt:56:17
 add-at-3 : tie.Need-add-at-3 Inv-loop μ-loop
 add-at-3 c = search needs
 
--- src/drain.rt:36:5
 loop-less-3 : tie.Need-loop-less-3 Inv-loop μ-loop
 loop-less-3 c = search needs
 
--- src/drain.rt:36:5
 loop-again-3 : tie.Need-loop-again-3 Inv-loop μ-loop
 unfolding settled
 loop-again-3 c =
     let r = c .before .before in
     draining-next _ _ _ _ _ _ _ _ (r .before .before .before .loop .inv) (r .before .before .loop-test .taken) (ap (settled _) (sym (seen r) ∙ c .enum-told2 .given .1))
 
--- src/drain.rt:28:1
 same-length-2 : tie.Need-same-length-2 Inv-loop μ-loop
 same-length-2 c = search needs
 
--- src/drain.rt:28:1
 returns-2 : tie.Need-returns-2 Inv-loop μ-loop
 returns-2 c = draining-end _ _ _ _ _ _ _ _ (c .before .loop .inv) (c .loop-test .left)
 

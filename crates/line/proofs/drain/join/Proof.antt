@@ -4,7 +4,7 @@ use mathlib.Core.List.{List}
 use Prim.Native.Nat.{ℕ}
 use native.Mathlib.Omega.{arith}
 use borrow.Author.Needs.{needs}
-use lib.ListN.{length, take, set, length-take}
+use lib.ListN.{take, set, length-take}
 use lib.Seq.{length-take-le}
 use Rattle.frame.specs.Memory.{over}
 use Rattle.frame.specs.MemoryLaws.{over-next}

@@ -1,23 +1,16 @@
-use Prim.Native.Nat.{ℕ, zero, suc, _≤_, _<_, _+_, _-_, _*_, _%_, _/_, _^_}
-use mathlib.Core.Path.{_≡_, refl, ap, sym, _∙_}
-use mathlib.Core.Logic.{⊎-elim}
-use mathlib.Core.Bool.{Bool, true, false}
+-- The array holds the kept bytes and the byte after them; what draining from the second place on leaves, with the rest copied back, is
+-- what `drained-settles` asks.
+use Prim.Native.Nat.{ℕ, _≤_, _+_, _-_}
+use mathlib.Core.Path.{_≡_, ap, sym, _∙_}
 use mathlib.Core.List.{List, [], _∷_, _++_}
 use native.Mathlib.Omega.{arith}
 use borrow.Author.Needs.{needs}
-use Rattle.line.specs.Drain.{readingFrom}
 use lib.ListN.{length, take, drop, replicate, length-take, length-append, length-drop}
 use lib.Seq.{length-take-le, take-at}
-use Rattle.frame.specs.Memory.{over}
 use Rattle.line.specs.DrainLaws.{copied, drained-settles}
 use Rattle.frame.specs.MemoryLaws.{over-length}
 use Rattle.line.proofs.drain.settle.Statement.{statement}
 use Rattle.line.proofs.drain.settle.Tie as tie
-use Rattle.line.proofs.drain.settle.Reads as reads
-use Rattle.line.proofs.drain.settle.Lts as lts
-use Rattle.bytes.proofs.copy.Reads as copy-reads
-use Rattle.line.proofs.drain.drain.Reads as drain-reads
-use Rattle.line.proofs.drain.join.Reads as join-reads
 
 -- the bytes that are settled: the kept ones and the byte after them
 abbrev bytes : tie.Start → List ℕ
@@ -54,48 +47,38 @@ stopped c =
     let n : length (take (at-start j .args .count + 1) (line j)) ≡ at-start j .args .count + 1 = ap length (front j) ∙ bytes-size (at-start j) in
     (c .drain .ensures .later, rw n at (c .drain .ensures .within))
 
--- src/drain.rt:84:26
 slice-aggregate-join : tie.Need-slice-aggregate-join
 slice-aggregate-join c = search needs
 
--- src/drain.rt:84:5
 join-requires : tie.Need-join-requires
 join-requires c κs = search needs
 
--- src/drain.rt:85:13
 add-n : tie.Need-add-n
 add-n c = search needs
 
--- src/drain.rt:86:19
 array-share-prefix-line : tie.Need-array-share-prefix-line
 array-share-prefix-line c = search needs
 
--- src/drain.rt:86:19
 slice-aggregate-drain : tie.Need-slice-aggregate-drain
 slice-aggregate-drain c =
     let j = c .before .before in
     sym (ap length (front j) ∙ bytes-size (at-start j))
 
--- src/drain.rt:86:9
 drain-requires : tie.Need-drain-requires
 drain-requires c κs =
     let j = c .before .before .before in
     let n : length (take (at-start j .args .count + 1) (line j)) ≡ at-start j .args .count + 1 = ap length (front j) ∙ bytes-size (at-start j) in
     (rw n (omega arith), rw n (omega arith))
 
--- src/drain.rt:88:17
 sub-copy : tie.Need-sub-copy
 sub-copy c = stopped (c .before .before) .1
 
--- src/drain.rt:88:17
 part-copy-start : tie.Need-part-copy-start
 part-copy-start c = stopped (c .before .before .before) .1
 
--- src/drain.rt:88:17
 part-copy-end : tie.Need-part-copy-end
 part-copy-end c = search needs
 
--- src/drain.rt:88:5
 copy-requires : tie.Need-copy-requires
 copy-requires c κs =
     let d = c .before .before .before .before .before in
@@ -103,15 +86,12 @@ copy-requires c κs =
     let k : length (s .args .kept .now) ≡ 211 = s .pre .0 .0 in
     simp (length-take, length-drop) (omega (arith, stopped d, line-size (d .before .before .before .before)))
 
--- src/drain.rt:90:16
 sub-t18 : tie.Need-sub-t18
 sub-t18 c = stopped (c .before .before .before .before .before .before) .1
 
--- src/drain.rt:78:1
 same-length : tie.Need-same-length
 same-length c = search needs
 
--- src/drain.rt:78:1
 returns : tie.Need-returns
 returns c =
     let d = c .before .before .before .before .before .before in

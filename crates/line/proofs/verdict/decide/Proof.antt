@@ -16,9 +16,6 @@ use Rattle.line.specs.declared.verdict.Verdict.the-variants.{Bad, Short,
 use Rattle.line.proofs.verdict.Verdict.{the-type}
 use Rattle.line.proofs.verdict.decide.Statement.{statement}
 use Rattle.line.proofs.verdict.decide.Tie as tie
-use Rattle.line.proofs.verdict.decide.Reads as reads
-use Rattle.line.proofs.verdict.decide.Lts as lts
-use Rattle.line.proofs.verdict.judge.Reads as judge-reads
 
 -- a verdict other than `Bad` says that the kept bytes are within range
 good : (r : Receiver) (b : ℕ) (v : Verdict) → OneOf (1 ∷ 2 ∷ 3 ∷ 4 ∷ 5 ∷ []) (tagOf the-type v) → Judges r b v → withinRange r ≡ true

@@ -1,5 +1,4 @@
 -- Every return is one of the verdicts of `VerdictLaws` up to the second start delimiter, or what `judge_body` gives.
-use Prim.Native.Nat.{_+_}
 use native.Mathlib.Omega.{arith}
 use borrow.Author.Needs.{needs}
 use Rattle.line.specs.VerdictLaws.{

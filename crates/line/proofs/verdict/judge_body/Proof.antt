@@ -1,6 +1,5 @@
 -- Every return is one of the verdicts of `VerdictLaws` up to the last data byte, or what `judge_end` gives.
-use Prim.Native.Nat.{_+_}
-use mathlib.Core.Path.{_≡_, refl}
+use mathlib.Core.Path.{refl}
 use native.Mathlib.Omega.{arith}
 use borrow.Author.Needs.{needs}
 use Rattle.line.specs.VerdictLaws.{control-comes, length-right, length-wrong, ninth-wrong, data-comes}

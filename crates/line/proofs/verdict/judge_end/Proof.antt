@@ -1,6 +1,5 @@
 -- Every return is one of the verdicts of `VerdictLaws` where all data bytes are kept; the checksum is that of the bytes before `end`.
-use Prim.Native.Nat.{_+_}
-use mathlib.Core.Path.{_≡_, sym, _∙_}
+use mathlib.Core.Path.{sym, _∙_}
 use native.Mathlib.Omega.{arith}
 use borrow.Author.Needs.{needs}
 use lib.Seq.{length-take-le}

@@ -1,52 +1,37 @@
-use Prim.Native.Nat.{ℕ, zero, suc, _≤_, _<_, _+_, _-_, _*_, _%_, _/_, _^_}
-use mathlib.Core.Path.{_≡_, refl, ap, sym, _∙_}
-use mathlib.Core.Logic.{⊎-elim}
-use mathlib.Core.Bool.{Bool, true, false}
-use mathlib.Core.List.{List, [], _∷_, _++_}
+-- Too high a count, or what recognition of the kept bytes says, is each a case of `withinRange`.
+use Prim.Native.Nat.{_-_}
+use mathlib.Core.Path.{sym, _∙_}
 use native.Mathlib.Omega.{arith}
 use borrow.Author.Needs.{needs}
-use lib.ListN.{length, take, drop, getD, set}
 use lib.Seq.{length-take-le}
 use Rattle.line.specs.VerdictLaws.{many-without, open-within, neither-without, whole-without}
 use Rattle.line.proofs.verdict.within_range.Statement.{statement}
 use Rattle.line.proofs.verdict.within_range.Tie as tie
-use Rattle.line.proofs.verdict.within_range.Reads as reads
-use Rattle.line.proofs.verdict.within_range.Lts as lts
-use Rattle.frame.proofs.recognise.Reads as recognise-reads
 
--- src/verdict.rt:130:9
 returns : tie.Need-returns
 returns c = sym (many-without _ _ (c .if1 .taken))
 
--- src/verdict.rt:132:34
 slice-aggregate-recognise : tie.Need-slice-aggregate-recognise
 slice-aggregate-recognise c = sym (length-take-le _ _ (omega arith))
 
--- src/verdict.rt:132:9
 recognise-requires : tie.Need-recognise-requires
 recognise-requires c κs = search needs
 
--- src/verdict.rt:134:40
 enum-told : tie.Need-enum-told
 enum-told c = search needs
 
--- src/verdict.rt:135:36
 enum-told-2 : tie.Need-enum-told-2
 enum-told-2 c = search needs
 
--- src/verdict.rt:136:39
 enum-told-3 : tie.Need-enum-told-3
 enum-told-3 c = search needs
 
--- src/verdict.rt:125:1
 returns-2 : tie.Need-returns-2
 returns-2 c = sym (whole-without _ _ _ (omega arith) (sym (c .before .before .recognise .ensures) ∙ c .enum-told .given .1))
 
--- src/verdict.rt:125:1
 returns-3 : tie.Need-returns-3
 returns-3 c = sym (open-within _ _ (omega arith) (sym (c .before .before .recognise .ensures) ∙ c .enum-told2 .given .1))
 
--- src/verdict.rt:125:1
 returns-4 : tie.Need-returns-4
 returns-4 c = sym (neither-without _ _ (omega arith) (sym (c .before .before .recognise .ensures) ∙ c .enum-told3 .given .1))
 

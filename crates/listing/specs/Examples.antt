@@ -1,0 +1,24 @@
+-- The two texts that document 01 gives, of its cases A and C, by computation.
+use Prim.Native.Nat.{ℕ}
+use mathlib.Core.Path.{_≡_, refl}
+use mathlib.Core.List.{List, [], _∷_}
+use Rattle.frame.specs.Frame.{unmasked, addressOf, controlOf, lengthOf, fieldOf, dataOf}
+use Rattle.listing.specs.Text.{digit, hexOf, hexAll, headOf, tailOf, textOf}
+
+-- Document 01's case A.
+abbrev caseA : List ℕ
+caseA = 0x68 ∷ 0x01 ∷ 0x00 ∷ 0x00 ∷ 0x00 ∷ 0x00 ∷ 0x00 ∷ 0x68 ∷ 0x11 ∷ 0x04 ∷ 0x33 ∷ 0x33 ∷ 0x34 ∷ 0x33 ∷ 0xB3 ∷ 0x16 ∷ []
+
+-- Document 01's case C.
+abbrev caseC : List ℕ
+caseC = 0x68 ∷ 0xAA ∷ 0xAA ∷ 0xAA ∷ 0xAA ∷ 0xAA ∷ 0xAA ∷ 0x68 ∷ 0x13 ∷ 0x00 ∷ 0xDF ∷ 0x16 ∷ []
+
+-- `000000000001 11 00000100`, and a newline.
+text-A : textOf caseA ≡ 0x30 ∷ 0x30 ∷ 0x30 ∷ 0x30 ∷ 0x30 ∷ 0x30 ∷ 0x30 ∷ 0x30 ∷ 0x30 ∷ 0x30 ∷ 0x30 ∷ 0x31 ∷ 0x20 ∷ 0x31 ∷ 0x31 ∷ 0x20 ∷ 0x30 ∷ 0x30 ∷ 0x30 ∷ 0x30 ∷ 0x30 ∷ 0x31 ∷ 0x30 ∷ 0x30 ∷ 0x0A ∷ []
+unfolding textOf headOf tailOf hexAll hexOf digit addressOf controlOf lengthOf fieldOf dataOf unmasked
+text-A = refl
+
+-- `AAAAAAAAAAAA 13`, with no blank after, and a newline.
+text-C : textOf caseC ≡ 0x41 ∷ 0x41 ∷ 0x41 ∷ 0x41 ∷ 0x41 ∷ 0x41 ∷ 0x41 ∷ 0x41 ∷ 0x41 ∷ 0x41 ∷ 0x41 ∷ 0x41 ∷ 0x20 ∷ 0x31 ∷ 0x33 ∷ 0x0A ∷ []
+unfolding textOf headOf tailOf hexAll hexOf digit addressOf controlOf lengthOf fieldOf dataOf unmasked
+text-C = refl
