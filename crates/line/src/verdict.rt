@@ -126,7 +126,7 @@ pub(crate) fn within_range(kept: &[u8], count: usize) -> bool
     requires { ⌜ length (now kept) ≡ 211 ⌝ }
     ensures { λ r. ⌜ r ≡ withinRange (receiverOf (now (kept .entry)) count) ⌝ }
 {
-    if 211 < count {
+    if count > 211 {
         return false;
     }
     let found = frame::recognise(&kept[..count]);

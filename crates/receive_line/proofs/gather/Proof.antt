@@ -1,0 +1,64 @@
+-- With nothing to copy the memory is as it was; else the copy stands in the lent part behind what stands there.
+use Prim.Native.Nat.{ℕ, _-_}
+use mathlib.Core.Path.{_≡_, refl, ap, sym, _∙_}
+use mathlib.Core.List.{List}
+use native.Mathlib.Omega.{arith}
+use borrow.Author.Needs.{needs}
+use borrow.Rule.Slice.PartMut.{putMid}
+use lib.ListN.{length, take, drop, length-take, length-drop}
+use lib.Seq.{length-take-le}
+use Rattle.frame.specs.Memory.{over}
+use Rattle.line.specs.DrainLaws.{copied}
+use Rattle.receive_line.specs.WholeLineLaws.{gathered-none, gathered}
+use Rattle.receive_line.proofs.gather.Statement.{statement}
+use Rattle.receive_line.proofs.gather.Tie as tie
+
+returns : tie.Need-returns
+returns c =
+    let s = c .before .before .before in
+    (omega arith, gathered-none (s .args .at) (s .args .count) (s .args .delivered .now) (s .args .out .now) (s .pre .1) (c .if1 .taken))
+
+slice-aggregate-copy : tie.Need-slice-aggregate-copy
+slice-aggregate-copy c = sym (length-take-le _ _ (omega arith))
+
+sub-copy : tie.Need-sub-copy
+sub-copy c = search needs
+
+part-copy-start : tie.Need-part-copy-start
+part-copy-start c = search needs
+
+part-copy-end : tie.Need-part-copy-end
+part-copy-end c = search needs
+
+copy-requires : tie.Need-copy-requires
+copy-requires c κs = simp (length-take, length-drop) (omega arith)
+
+add-result : tie.Need-add-result
+add-result c = search needs
+
+same-length : tie.Need-same-length
+same-length c = search needs
+
+returns-2 : tie.Need-returns-2
+returns-2 c =
+    let s = c .before .before .before .before .before .before .before .before in
+    let a = s .args in
+    let some : List ℕ = take (a .count) (a .delivered .now) in
+    let size : length some ≡ a .count = length-take-le (a .count) (a .delivered .now) (s .pre .0) in
+    let part : List ℕ = take (length (a .out .now) - a .at) (drop (a .at) (a .out .now)) in
+    let e : c .before .before .copy .last .1 .0 ≡ over some part = c .before .before .copy .ensures .1 ∙ copied some part in
+    (refl, ap (putMid (a .at) (length (a .out .now) - a .at) (a .out .now)) e ∙ gathered (a .at) some (a .out .now) (omega arith))
+
+pub gather-spec : {M : Type 1} → statement M
+gather-spec =
+    tie.close
+    (tie.spec
+    returns
+    slice-aggregate-copy
+    sub-copy
+    part-copy-start
+    part-copy-end
+    copy-requires
+    add-result
+    same-length
+    returns-2)

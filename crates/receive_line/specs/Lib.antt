@@ -1,0 +1,2 @@
+pub mod WholeLine
+pub mod WholeLineLaws

@@ -1,0 +1,18 @@
+-- What hearing a whole recorded line through the receiver's calls comes to.
+use Prim.Native.Nat.{ℕ, _-_, _^_}
+use mathlib.Core.List.{List, [], _∷_, _++_, map}
+use lib.ListN.{length}
+use lib.Dec.{leb}
+use Rattle.frame.specs.Memory.{Outcome, outcome, over, pick}
+use Rattle.line.specs.Line.{byte, silence}
+use Rattle.line.specs.Places.{joined}
+use Rattle.line.specs.Scan.{scan}
+
+-- The frames of the bytes with a silence behind them, joined.
+unfoldable pub framesIn : List ℕ → List ℕ
+framesIn input = joined (scan 0 0 (map byte input ++ (silence ∷ [])) .frames)
+
+-- Memory shorter than the input: the largest number, and nothing written. Else how many bytes the frames have, and they over the front.
+unfoldable pub receivedLine : List ℕ → List ℕ → Outcome ℕ
+receivedLine input m =
+    pick (leb (length input) (length m)) (outcome (length (framesIn input)) (over (framesIn input) m)) (outcome (2 ^ 64 - 1) m)
