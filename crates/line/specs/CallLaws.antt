@@ -71,24 +71,24 @@ module _ (x : List Symbol) (s : Symbol) where
       go (inr m) = m
 
 -- A receiver that has heard a line keeps what the scan of the line keeps.
-pub record Heard (x : List Symbol) (r : Receiver) : Type 0 where
+pub record HasReceived (x : List Symbol) (r : Receiver) : Type 0 where
   pub size : length (r .kept) ≡ 211
   pub bytes : keptBytes r ≡ scan 0 0 x .kept
   pub count : r .count ≡ length (scan 0 0 x .kept)
 
 -- It keeps at most 211 bytes.
-pub heard-most : {x : List Symbol} {r : Receiver} → Heard x r → r .count ≤ 211
-heard-most {x} h = omega (arith, h .count, open-most (scan 0 0 x .kept) (scan-kept-open 0 0 x))
+pub received-most : {x : List Symbol} {r : Receiver} → HasReceived x r → r .count ≤ 211
+received-most {x} h = omega (arith, h .count, open-most (scan 0 0 x .kept) (scan-kept-open 0 0 x))
 
 -- A fresh receiver has heard nothing.
-pub fresh-heard : Heard [] fresh
+pub fresh-received : HasReceived [] fresh
 unfolding fresh keptBytes scan
-fresh-heard = record { size = length-replicate {A = ℕ} 211 0; bytes = refl; count = refl }
+fresh-received = record { size = length-replicate {A = ℕ} 211 0; bytes = refl; count = refl }
 
 -- A receiver that keeps what the scan of another line keeps has heard that line.
-keeping-heard : {x y : List Symbol} {r : Receiver} (b : List ℕ) → Heard x r → b ≡ scan 0 0 y .kept → Heard y (keeping b r)
+keeping-received : {x y : List Symbol} {r : Receiver} (b : List ℕ) → HasReceived x r → b ≡ scan 0 0 y .kept → HasReceived y (keeping b r)
 unfolding keeping keptBytes
-keeping-heard {x} {y} {r} b h e =
+keeping-received {x} {y} {r} b h e =
     let l : length b ≤ 211 = rw e (open-most (scan 0 0 y .kept) (scan-kept-open 0 0 y)) in
     let z : length (r .kept) ≡ 211 = h .size in
     record {
@@ -98,7 +98,7 @@ keeping-heard {x} {y} {r} b h e =
     }
 
 -- What it reads with one symbol more: the bytes and the number of the new frames, and what the scan keeps after that symbol.
-module _ {x : List Symbol} {r : Receiver} (s : Symbol) (h : Heard x r) where
+module _ {x : List Symbol} {r : Receiver} (s : Symbol) (h : HasReceived x r) where
   reads-joined : joined (readingWith r s .frames) ≡ joined (newFrames x s)
   unfolding readingWith newFrames
   reads-joined = rw (h .bytes) (place-joined _ _ _)
@@ -112,11 +112,11 @@ module _ {x : List Symbol} {r : Receiver} (s : Symbol) (h : Heard x r) where
   reads-kept = rw (h .bytes, one-more x s .kept) (place-kept _ _ _)
 
 -- It is within its range, so a call looks at the memory.
-within : {x : List Symbol} {r : Receiver} → Heard x r → withinRange r ≡ true
+within : {x : List Symbol} {r : Receiver} → HasReceived x r → withinRange r ≡ true
 unfolding withinRange isOpen
-within {x} {r} h = rw (le-leb (r .count) 211 (heard-most h), h .bytes, scan-kept-open 0 0 x)
+within {x} {r} h = rw (le-leb (r .count) 211 (received-most h), h .bytes, scan-kept-open 0 0 x)
 
-called-within : {x : List Symbol} {r : Receiver} (s : Symbol) (m : List ℕ) → Heard x r →
+called-within : {x : List Symbol} {r : Receiver} (s : Symbol) (m : List ℕ) → HasReceived x r →
     called s r m ≡ pick (leb 212 (length m)) (delivered (readingWith r s) r m) (refused 1 r m)
 unfolding called
 called-within s m h = rw (within h)
@@ -125,10 +125,10 @@ called-within s m h = rw (within h)
 pub data Answers (x : List Symbol) (s : Symbol) (r : Receiver) (m : List ℕ) (returned : Received) (left : List ℕ) : Type 0 where
   ignores : length m < 212 → returned .answer ≡ Refused 1 → returned .receiver ≡ r → left ≡ m → Answers x s r m returned left
   delivers : 212 ≤ length m → returned .answer ≡ Delivered (length (joined (newFrames x s))) (length (newFrames x s)) →
-      Heard (x ++ (s ∷ [])) (returned .receiver) → take (length (joined (newFrames x s))) left ≡ joined (newFrames x s) →
+      HasReceived (x ++ (s ∷ [])) (returned .receiver) → take (length (joined (newFrames x s))) left ≡ joined (newFrames x s) →
       Answers x s r m returned left
 
-pub answers : {x : List Symbol} {s : Symbol} {r : Receiver} {m : List ℕ} {returned : Received} {left : List ℕ} → Heard x r →
+pub answers : {x : List Symbol} {s : Symbol} {r : Receiver} {m : List ℕ} {returned : Received} {left : List ℕ} → HasReceived x r →
     outcome returned left ≡ called s r m → Answers x s r m returned left
 unfolding refused delivered
 answers {x} {s} {r} {m} {returned} {left} h e = go (leb 212 (length m)) refl (e ∙ called-within s m h)
@@ -138,19 +138,19 @@ answers {x} {s} {r} {m} {returned} {left} h e = go (leb 212 (length m)) refl (e 
     go true l q =
         delivers (leb-true _ _ l)
         (ap (λ (o : Outcome Received). o .answer .answer) q ∙ rw (reads-joined s h, reads-count s h))
-        (rw (ap (λ (o : Outcome Received). o .answer .receiver) q) (keeping-heard (readingWith r s .kept) h (reads-kept s h)))
+        (rw (ap (λ (o : Outcome Received). o .answer .receiver) q) (keeping-received (readingWith r s .kept) h (reads-kept s h)))
         (rw (ap (λ (o : Outcome Received). o .memory) q, reads-joined s h) (take-append-seam (joined (newFrames x s)) _))
     go false l q =
         ignores (leb-false _ _ l) (ap (λ (o : Outcome Received). o .answer .answer) q) (ap (λ (o : Outcome Received). o .answer .receiver) q)
         (ap (λ (o : Outcome Received). o .memory) q)
 
 -- After more symbols the receiver has heard them too, and the bytes of the frames found with them have been handed on.
-pub record After (x y : List Symbol) (handed : List ℕ) (r : Receiver) : Type 0 where
-  pub heard : Heard (x ++ y) r
-  pub frames : joined (scan 0 0 (x ++ y) .frames) ≡ joined (scan 0 0 x .frames) ++ handed
+pub record After (x y : List Symbol) (bytes : List ℕ) (r : Receiver) : Type 0 where
+  pub heard : HasReceived (x ++ y) r
+  pub frames : joined (scan 0 0 (x ++ y) .frames) ≡ joined (scan 0 0 x .frames) ++ bytes
 
 -- After no symbol, after some and then more, and after one.
-pub after-none : {x : List Symbol} {r : Receiver} → Heard x r → After x [] [] r
+pub after-none : {x : List Symbol} {r : Receiver} → HasReceived x r → After x [] [] r
 after-none {x} h = record { heard = rw append-nil h; frames = rw (append-nil x, append-nil) }
 
 pub after-then : {x y z : List Symbol} {g h : List ℕ} {r r′ : Receiver} → After x y g r → After (x ++ y) z h r′ →
@@ -161,5 +161,5 @@ after-then {x} {y} {z} a b =
       frames = rw (← append-assoc x y z, b .frames, a .frames, append-assoc);
     }
 
-pub after-one : {x : List Symbol} {s : Symbol} {r : Receiver} → Heard (x ++ (s ∷ [])) r → After x (s ∷ []) (joined (newFrames x s)) r
+pub after-one : {x : List Symbol} {s : Symbol} {r : Receiver} → HasReceived (x ++ (s ∷ [])) r → After x (s ∷ []) (joined (newFrames x s)) r
 after-one {x} {s} h = record { heard = h; frames = rw new-after (joined-append (scan 0 0 x .frames) (newFrames x s)) }

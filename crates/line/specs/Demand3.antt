@@ -11,7 +11,7 @@ use Rattle.line.specs.Places.{Found, Rising, joined}
 use Rattle.line.specs.Scan.{scan}
 use Rattle.line.specs.ScanLaws.{scan-rising}
 use Rattle.line.specs.ScanCertain.{found-certain, certain-found}
-use Rattle.line.specs.CallLaws.{newFrames, new-rising, new-certain, certain-new, Heard, heard-most, fresh-heard}
+use Rattle.line.specs.CallLaws.{newFrames, new-rising, new-certain, certain-new, HasReceived, received-most, fresh-received}
 use Rattle.line.specs.CallLaws.{Answers, ignores, delivers, answers, After, after-none, after-then, after-one}
 use Rattle.line.specs.Receiver.{fresh, called}
 use Rattle.line.specs.declared.Receiver.{Receiver}
@@ -37,24 +37,24 @@ Calls r [] = Unit
 Calls r (c ∷ cs) = (outcome (c .returned) (c .left) ≡ called (c .symbol) r (c .lent)) × Calls (c .returned .receiver) cs
 
 -- What an answer adds to the line heard: the symbol, unless the call was refused.
-abbrev pub heardBy : Answer → Symbol → List Symbol
-heardBy (Refused n) s = []
-heardBy (Delivered bytes frames) s = s ∷ []
+abbrev pub receivedBy : Answer → Symbol → List Symbol
+receivedBy (Refused n) s = []
+receivedBy (Delivered bytes frames) s = s ∷ []
 
--- The line heard: the symbols of all calls not refused.
+-- Document 01's line heard: the symbols of all calls not refused.
 abbrev pub heard : List Call → List Symbol
 heard [] = []
-heard (c ∷ cs) = heardBy (c .returned .answer) (c .symbol) ++ heard cs
+heard (c ∷ cs) = receivedBy (c .returned .answer) (c .symbol) ++ heard cs
 
 -- What a call hands on: as many bytes as it says, from the front of its memory as it stands on return; nothing if refused.
-abbrev pub handedBy : Answer → List ℕ → List ℕ
-handedBy (Refused n) left = []
-handedBy (Delivered bytes frames) left = take bytes left
+abbrev pub deliveredBy : Answer → List ℕ → List ℕ
+deliveredBy (Refused n) left = []
+deliveredBy (Delivered bytes frames) left = take bytes left
 
 -- All that was handed on, joined.
-abbrev pub handedOn : List Call → List ℕ
-handedOn [] = []
-handedOn (c ∷ cs) = handedBy (c .returned .answer) (c .left) ++ handedOn cs
+abbrev pub deliveredBytes : List Call → List ℕ
+deliveredBytes [] = []
+deliveredBytes (c ∷ cs) = deliveredBy (c .returned .answer) (c .left) ++ deliveredBytes cs
 
 -- A strictly rising list of places and frames whose members are exactly those that `member` has.
 pub record Exactly (member : ℕ → List ℕ → Type 1) : Type 1 where
@@ -83,13 +83,13 @@ pub record CallIsRight (line : List Symbol) (r : Receiver) (c : Call) : Type 1 w
   pub enough : 212 ≤ length (c .lent) → Counted line c
 
 -- What holds of a list of calls from a fresh receiver.
-pub record HearsTheLine (calls : List Call) : Type 1 where
+pub record ReceivesTheLine (calls : List Call) : Type 1 where
   -- each call of the list
   pub each : (earlier : List Call) (c : Call) (later : List Call) → calls ≡ earlier ++ (c ∷ later) →
       CallIsRight (heard earlier) (receiverAfter fresh earlier) c
   -- the frames certain after the line heard, and that all that was handed on, joined, is their bytes joined
   pub certain : Exactly (Certain (heard calls))
-  pub handed : handedOn calls ≡ joined (certain .frames)
+  pub delivered : deliveredBytes calls ≡ joined (certain .frames)
   -- at most 211 bytes are kept
   pub kept : receiverAfter fresh calls .count ≤ 211
 
@@ -113,13 +113,13 @@ call-right {line} {c = c} (delivers l a e m) =
         }
 
 -- After a call, and after a list of calls, the receiver has heard what they heard, and what was found with it was handed on.
-call-after : {line : List Symbol} {r : Receiver} {c : Call} → Heard line r → AnswersOf line r c →
-    After line (heardBy (c .returned .answer) (c .symbol)) (handedBy (c .returned .answer) (c .left)) (c .returned .receiver)
+call-after : {line : List Symbol} {r : Receiver} {c : Call} → HasReceived line r → AnswersOf line r c →
+    After line (receivedBy (c .returned .answer) (c .symbol)) (deliveredBy (c .returned .answer) (c .left)) (c .returned .receiver)
 call-after h (ignores l a e m) = rw (a, e) (after-none h)
 call-after h (delivers l a e m) = rw (a, m) (after-one e)
 
-calls-after : {line : List Symbol} {r : Receiver} (calls : List Call) → Heard line r → Calls r calls →
-    After line (heard calls) (handedOn calls) (receiverAfter r calls)
+calls-after : {line : List Symbol} {r : Receiver} (calls : List Call) → HasReceived line r → Calls r calls →
+    After line (heard calls) (deliveredBytes calls) (receiverAfter r calls)
 calls-after [] h k = after-none h
 calls-after (c ∷ cs) h k =
     let a = call-after {c = c} h (answers h (k .0)) in
@@ -132,20 +132,20 @@ calls-split r [] later k = (tt, k)
 calls-split r (c ∷ cs) later k = let s = calls-split (c .returned .receiver) cs later (k .1) in ((k .0, s .0), s .1)
 
 -- Demand 3.
-pub demand-3 : (calls : List Call) → Calls fresh calls → HearsTheLine calls
+pub demand-3 : (calls : List Call) → Calls fresh calls → ReceivesTheLine calls
 unfolding scan joined
 demand-3 calls h =
-    let after : After [] (heard calls) (handedOn calls) (receiverAfter fresh calls) = calls-after calls fresh-heard h in
+    let after : After [] (heard calls) (deliveredBytes calls) (receiverAfter fresh calls) = calls-after calls fresh-received h in
     record {
       each = λ earlier c later e.
           let s = calls-split fresh earlier (c ∷ later) (subst (Calls fresh) e h) in
-          call-right (answers (calls-after earlier fresh-heard (s .0) .heard) (s .1 .0));
+          call-right (answers (calls-after earlier fresh-received (s .0) .heard) (s .1 .0));
       certain =
           record {
             frames = scan 0 0 (heard calls) .frames;
             rising = scan-rising 0 0 (heard calls);
             exact = λ place frame. (found-certain (heard calls) place frame, certain-found (heard calls) place frame);
           };
-      handed = sym (after .frames);
-      kept = heard-most (after .heard);
+      delivered = sym (after .frames);
+      kept = received-most (after .heard);
     }

@@ -41,5 +41,5 @@ Keeps line taken =
 
 -- A frame is certain after a list of symbols if it is taken, at the same place, in every list that begins with that one.
 abbrev pub Certain : List Symbol → ℕ → List ℕ → Type 1
-Certain heard place frame =
-    (more : List Symbol) → AllBytes more → (taken : Choice) → Keeps (heard ++ more) taken → taken place frame
+Certain line place frame =
+    (more : List Symbol) → AllBytes more → (taken : Choice) → Keeps (line ++ more) taken → taken place frame

@@ -28,6 +28,7 @@ receiverOf kept count = record { kept = kept; count = count }
 unfoldable pub keptBytes : Receiver → List ℕ
 keptBytes r = take (r .count) (r .kept)
 
+-- The bytes are a proper beginning of a frame.
 unfoldable pub isOpen : Recognised → Bool
 isOpen (Whole n) = false
 isOpen Open = true

@@ -18,7 +18,7 @@ struct Waiting {
 }
 
 // What a block of input leaves.
-struct Heard {
+struct Progress {
     // The receiver behind the block.
     receiver: Receiver,
     // Whether the program goes on: its input has not ended, and every line so far is written.
@@ -139,7 +139,7 @@ fn add_delivered(answer: Answer, out: &[u8], text: &mut [u8], waiting: Waiting) 
 }
 
 // Feeds a block of the line to the receiver, and writes a line for each frame that it delivers.
-fn hear(block: &[u8], start: Receiver, text: &mut [u8]) -> Heard {
+fn list_block(block: &[u8], start: Receiver, text: &mut [u8]) -> Progress {
     let mut out = [0u8; 212];
     let mut received = Received {
         receiver: start,
@@ -164,7 +164,7 @@ fn hear(block: &[u8], start: Receiver, text: &mut [u8]) -> Heard {
     }
     let last = flush(text, waiting);
     let receiver = received.receiver;
-    Heard {
+    Progress {
         receiver,
         on: last.good,
     }
@@ -189,13 +189,13 @@ fn finish(receiver: Receiver, text: &mut [u8]) -> bool {
 }
 
 // Reads a block and lists its frames; the end of the input is a silence. A read that a signal interrupts is tried again.
-fn turn(receiver: Receiver, block: &mut [u8], text: &mut [u8]) -> Heard {
+fn turn(receiver: Receiver, block: &mut [u8], text: &mut [u8]) -> Progress {
     let got = libc::read(STDIN_FILENO, block);
     if got == 0 {
         if !finish(receiver, text) {
             say_unwritten();
         }
-        return Heard {
+        return Progress {
             receiver,
             on: false,
         };
@@ -203,18 +203,18 @@ fn turn(receiver: Receiver, block: &mut [u8], text: &mut [u8]) -> Heard {
     if got < 0 {
         if os::errno() != libc::EINTR {
             say_unread();
-            return Heard {
+            return Progress {
                 receiver,
                 on: false,
             };
         }
     }
     let n = io::count(got, block);
-    let heard = hear(&block[..n], receiver, text);
-    if !heard.on {
+    let progress = list_block(&block[..n], receiver, text);
+    if !progress.on {
         say_unwritten();
     }
-    heard
+    progress
 }
 
 // Lists the frames of the whole input. A proved loop has to end, and nothing says that the input does: so the loop counts
@@ -223,11 +223,11 @@ fn list_input(block: &mut [u8], text: &mut [u8]) {
     let mut receiver = Receiver::new();
     let mut turns = u64::MAX;
     while 0 < turns {
-        let heard = turn(receiver, block, text);
-        if !heard.on {
+        let progress = turn(receiver, block, text);
+        if !progress.on {
             return;
         }
-        receiver = heard.receiver;
+        receiver = progress.receiver;
         turns -= 1;
     }
 }

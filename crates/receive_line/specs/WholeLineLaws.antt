@@ -14,7 +14,7 @@ use Rattle.line.specs.Places.{joined}
 use Rattle.line.specs.Scan.{Reading, bytesBefore, before, scan}
 use Rattle.line.specs.ScanLaws.{Scans, ends, covered, finds, stops, drops, scans, begins-within}
 use Rattle.line.specs.Receiver.{fresh, called}
-use Rattle.line.specs.CallLaws.{Heard, fresh-heard, newFrames, Answers, ignores, delivers, answers, after-one}
+use Rattle.line.specs.CallLaws.{HasReceived, fresh-received, newFrames, Answers, ignores, delivers, answers, after-one}
 use Rattle.line.specs.declared.Receiver.{Receiver}
 use Rattle.line.specs.declared.Received.{Received}
 use Rattle.line.specs.declared.Answer.the-variants.{Refused, Delivered}
@@ -77,24 +77,24 @@ gathered at ys m h =
     (lent-over at (take at m) ys m front h)
 
 -- A receiver has heard the symbols, the frames that it delivered stand over the front of the memory, and `at` is where they end.
-pub record Hearing (x : List Symbol) (m₀ m : List ℕ) (r : Receiver) (at : ℕ) : Type 0 where
-  pub heard : Heard x r
+pub record Receiving (x : List Symbol) (m₀ m : List ℕ) (r : Receiver) (at : ℕ) : Type 0 where
+  pub heard : HasReceived x r
   pub memory : m ≡ over (joined (scan 0 0 x .frames)) m₀
   pub bytes : at ≡ length (joined (scan 0 0 x .frames))
 
 -- Before the first symbol nothing is delivered.
-hearing-start : (m : List ℕ) → Hearing [] m m fresh 0
+receiving-start : (m : List ℕ) → Receiving [] m m fresh 0
 unfolding scan joined
-hearing-start m = record { heard = fresh-heard; memory = refl; bytes = refl }
+receiving-start m = record { heard = fresh-received; memory = refl; bytes = refl }
 
 -- A call with a symbol delivers so many bytes at the front of its memory, and leaves this receiver.
 pub record Call (x : List Symbol) (s : Symbol) (left : List ℕ) (r : Receiver) (count : ℕ) : Type 0 where
-  pub heard : Heard (x ++ (s ∷ [])) r
+  pub heard : HasReceived (x ++ (s ∷ [])) r
   pub bytes : count ≡ length (joined (newFrames x s))
   pub front : take count left ≡ joined (newFrames x s)
 
 -- A call of a receiver that has heard a line, with memory enough.
-module _ {x : List Symbol} {r : Receiver} {returned : Received} {left : List ℕ} (s : Symbol) (m : List ℕ) (h : Heard x r) (l : 212 ≤ length m)
+module _ {x : List Symbol} {r : Receiver} {returned : Received} {left : List ℕ} (s : Symbol) (m : List ℕ) (h : HasReceived x r) (l : 212 ≤ length m)
     (e : outcome returned left ≡ called s r m) where
   -- It is not refused.
   pub never-refused : {n : ℕ} → returned .answer ≡ Refused n → ⊥
@@ -102,7 +102,7 @@ module _ {x : List Symbol} {r : Receiver} {returned : Received} {left : List ℕ
     where
       go : Answers x s r m returned left → ⊥
       go (ignores few q same left-so) = omega arith
-      go (delivers roomy q now-heard front) = let z : _≡_ {A = ℕ} 0 1 = cc in omega arith
+      go (delivers roomy q now-received front) = let z : _≡_ {A = ℕ} 0 1 = cc in omega arith
 
   -- It delivers the new frames.
   call-delivers : {count frames : ℕ} → returned .answer ≡ Delivered count frames → Call x s left (returned .receiver) count
@@ -110,12 +110,12 @@ module _ {x : List Symbol} {r : Receiver} {returned : Received} {left : List ℕ
     where
       go : Answers x s r m returned left → Call x s left (returned .receiver) count
       go (ignores few q same left-so) = absurd (omega arith)
-      go (delivers roomy q now-heard front) =
+      go (delivers roomy q now-received front) =
           let n : count ≡ length (joined (newFrames x s)) = cc in
-          record { heard = now-heard; bytes = n; front = rw n front }
+          record { heard = now-received; bytes = n; front = rw n front }
 
 -- What a call delivers is gathered, where the line's bytes are no more than the memory.
-module _ {x : List Symbol} {s : Symbol} {m₀ m left : List ℕ} {r r′ : Receiver} {at count : ℕ} (h : Hearing x m₀ m r at) (c : Call x s left r′ count)
+module _ {x : List Symbol} {s : Symbol} {m₀ m left : List ℕ} {r r′ : Receiver} {at count : ℕ} (h : Receiving x m₀ m r at) (c : Call x s left r′ count)
     (fits : bytesIn (x ++ (s ∷ [])) ≤ length m₀) where
   -- The frames delivered with one symbol more are those before and those that the call delivers.
   more : joined (scan 0 0 (x ++ (s ∷ [])) .frames) ≡ joined (scan 0 0 x .frames) ++ joined (newFrames x s)
@@ -137,8 +137,8 @@ module _ {x : List Symbol} {s : Symbol} {m₀ m left : List ℕ} {r r′ : Recei
       omega (arith, h .bytes, c .bytes)
 
   -- Gathered behind what was delivered before, it makes the receiver's hearing one symbol longer.
-  hearing-more : Hearing (x ++ (s ∷ [])) m₀ (over (take at m ++ take count left) m) r′ (at + count)
-  hearing-more =
+  receiving-more : Receiving (x ++ (s ∷ [])) m₀ (over (take at m ++ take count left) m) r′ (at + count)
+  receiving-more =
       let old : List ℕ = joined (scan 0 0 x .frames) in
       let new : List ℕ = joined (newFrames x s) in
       let front : take at m ≡ old = ap (take at) (h .memory) ∙ take-at old (drop (length old) m₀) at (sym (h .bytes)) in
@@ -153,12 +153,12 @@ pub record Turning (input : List ℕ) (i : ℕ) (scratch m₀ m : List ℕ) (r :
   pub passed : i ≤ length input
   pub enough : length scratch ≡ 212
   pub same : length m ≡ length m₀
-  pub so-far : Hearing (map byte (take i input)) m₀ m r at
+  pub so-far : Receiving (map byte (take i input)) m₀ m r at
 
 -- Before the first turn.
 pub turning-start : {r : Receiver} (input scratch m : List ℕ) → length scratch ≡ 212 → r ≡ fresh → Turning input 0 scratch m m r 0
 turning-start input scratch m n e =
-    record { passed = omega arith; enough = n; same = refl; so-far = rw e (hearing-start m) }
+    record { passed = omega arith; enough = n; same = refl; so-far = rw e (receiving-start m) }
 
 -- A turn: the call with the next byte.
 module _ {input scratch m₀ m left : List ℕ} {i at : ℕ} {r : Receiver} {returned : Received} (t : Turning input i scratch m₀ m r at) (below : i < length input)
@@ -199,12 +199,12 @@ module _ {input scratch m₀ m left : List ℕ} {i at : ℕ} {r : Receiver} {ret
           passed = omega arith;
           enough = n;
           same = ap length q ∙ over-length (take at m ++ take count left) m (rw length-append (omega arith)) ∙ t .same;
-          so-far = rw (next, p, q) (hearing-more (t .so-far) turn-call next-fits);
+          so-far = rw (next, p, q) (receiving-more (t .so-far) turn-call next-fits);
         }
 
 -- After the last turn all of the input is heard.
 pub turning-end : {input scratch m₀ m : List ℕ} {i at : ℕ} {r : Receiver} → Turning input i scratch m₀ m r at → length input ≤ i →
-    Hearing (map byte input) m₀ m r at
+    Receiving (map byte input) m₀ m r at
 turning-end t h = rw take-all at (t .so-far)
 
 -- Memory shorter than the input: the largest number, and nothing written.
@@ -214,7 +214,7 @@ too-short input m h = rw lt-leb
 
 -- The end: the call with the silence.
 module _ {m₀ m left : List ℕ} {at count frames : ℕ} {r : Receiver} {returned : Received} (input scratch : List ℕ) (enough : length scratch ≡ 212)
-    (roomy : length input ≤ length m₀) (h : Hearing (map byte input) m₀ m r at) (e : outcome returned left ≡ called silence r scratch)
+    (roomy : length input ≤ length m₀) (h : Receiving (map byte input) m₀ m r at) (e : outcome returned left ≡ called silence r scratch)
     (a : returned .answer ≡ Delivered count frames) where
   -- It delivers.
   last-call : Call (map byte input) silence left (returned .receiver) count
@@ -233,9 +233,9 @@ module _ {m₀ m left : List ℕ} {at count frames : ℕ} {r : Receiver} {return
   end-fits = count-fits h last-call last-fits
 
   -- Where that is gathered, the whole line is heard.
-  pub line-heard : {m′ : List ℕ} {at′ : ℕ} → at′ ≡ at + count → m′ ≡ over (take at m ++ take count left) m → outcome at′ m′ ≡ receivedLine input m₀
+  pub line-received : {m′ : List ℕ} {at′ : ℕ} → at′ ≡ at + count → m′ ≡ over (take at m ++ take count left) m → outcome at′ m′ ≡ receivedLine input m₀
   unfolding receivedLine framesIn
-  line-heard p q =
-      let all : Hearing (map byte input ++ (silence ∷ [])) m₀ (over (take at m ++ take count left) m) (returned .receiver) (at + count) =
-      hearing-more h last-call last-fits in
+  line-received p q =
+      let all : Receiving (map byte input ++ (silence ∷ [])) m₀ (over (take at m ++ take count left) m) (returned .receiver) (at + count) =
+      receiving-more h last-call last-fits in
       rw (le-leb (length input) (length m₀) roomy, p, q, all .memory, all .bytes)

@@ -9,7 +9,7 @@ ghost use lib.ListN.{length, take};
 ghost use Rattle.frame.specs.Memory.{outcome, over};
 ghost use Rattle.line.specs.Line.{byte};
 ghost use Rattle.receive_line.specs.WholeLine.{receivedLine};
-ghost use Rattle.receive_line.specs.WholeLineLaws.{Hearing};
+ghost use Rattle.receive_line.specs.WholeLineLaws.{Receiving};
 
 // A receiver that has been fed, and how many bytes the frames have that it delivered.
 struct Fed {
@@ -31,12 +31,12 @@ fn gather(delivered: &[u8], count: usize, at: usize, out: &mut [u8]) -> usize
 
 // Feeds a fresh receiver every byte of `input`, and writes all frames delivered end to end to the front of `out`. The loop
 // carries what a call returned, receiver and answer together, which spares a copy of the receiver.
-fn hear(input: &[u8], out: &mut [u8]) -> Fed
+fn receive_all(input: &[u8], out: &mut [u8]) -> Fed
     requires { ⌜ length (now input) ≤ length (now out) ⌝ }
-    ensures { λ r. ⌜ Hearing (map byte (now (input .entry))) (now (out .entry)) (now (out .exit)) (r .receiver) (r .at) ⌝ }
+    ensures { λ r. ⌜ Receiving (map byte (now (input .entry))) (now (out .entry)) (now (out .exit)) (r .receiver) (r .at) ⌝ }
 {
     let fresh = Receiver::new();
-    let mut heard = Received {
+    let mut received = Received {
         receiver: fresh,
         answer: Answer::Delivered {
             bytes: 0,
@@ -47,9 +47,9 @@ fn hear(input: &[u8], out: &mut [u8]) -> Fed
     let mut at = 0;
     let mut i = 0;
     while i < input.len() {
-        let receiver = heard.receiver;
-        heard = receiver.byte(input[i], &mut scratch);
-        let answer = heard.answer;
+        let receiver = received.receiver;
+        received = receiver.byte(input[i], &mut scratch);
+        let answer = received.answer;
         match answer {
             Answer::Refused(_) => {}
             Answer::Delivered { bytes, frames: _ } => {
@@ -58,7 +58,7 @@ fn hear(input: &[u8], out: &mut [u8]) -> Fed
         }
         i += 1;
     }
-    let receiver = heard.receiver;
+    let receiver = received.receiver;
     Fed { receiver, at }
 }
 
@@ -71,11 +71,11 @@ pub extern "C" fn receive_line(input: &[u8], out: &mut [u8]) -> usize
     if out.len() < input.len() {
         return usize::MAX;
     }
-    let fed = hear(input, out);
+    let fed = receive_all(input, out);
     let at = fed.at;
     let mut scratch = [0u8; 212];
-    let heard = fed.receiver.silence(&mut scratch);
-    let answer = heard.answer;
+    let received = fed.receiver.silence(&mut scratch);
+    let answer = received.answer;
     match answer {
         Answer::Refused(_) => at,
         Answer::Delivered { bytes, frames: _ } => gather(&scratch, bytes, at, out),

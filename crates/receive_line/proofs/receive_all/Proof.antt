@@ -6,14 +6,14 @@ use mathlib.Core.Logic.{⊎-elim}
 use borrow.Author.Needs.{needs}
 use lib.ListN.{length}
 use Rattle.receive_line.specs.WholeLineLaws.{Turning, turning-start, turn-refused, turn-within, turn-fits, turning-more, turning-end}
-use Rattle.receive_line.proofs.hear.Statement.{statement}
-use Rattle.receive_line.proofs.hear.Tie as tie
+use Rattle.receive_line.proofs.receive_all.Statement.{statement}
+use Rattle.receive_line.proofs.receive_all.Tie as tie
 
 abbrev Inv-loop : tie.InvT-loop
-Inv-loop input out₀ heard₀ scratch₀ at₀ i₀ out heard scratch at i = Turning input i scratch out₀ out (heard .receiver) at
+Inv-loop input out₀ received₀ scratch₀ at₀ i₀ out received scratch at i = Turning input i scratch out₀ out (received .receiver) at
 
 abbrev μ-loop : tie.MeasureT-loop
-μ-loop input out₀ heard₀ scratch₀ at₀ i₀ out heard scratch at i = length input - i
+μ-loop input out₀ received₀ scratch₀ at₀ i₀ out received scratch at i = length input - i
 
 -- the loop's test in whose turn a call stands
 abbrev turn : tie.After-scratch2 Inv-loop μ-loop → tie.In-loop Inv-loop μ-loop
@@ -84,8 +84,8 @@ same-length c = c .before .before .loop .inv .same
 returns : tie.Need-returns Inv-loop μ-loop
 returns c = turning-end (c .before .before .loop .inv) (c .before .loop-test .left)
 
-pub hear-spec : {M : Type 1} → statement M
-hear-spec =
+pub receive-all-spec : {M : Type 1} → statement M
+receive-all-spec =
     tie.close
     (tie.spec
     Inv-loop

@@ -6,8 +6,8 @@ use native.Mathlib.Omega.{arith}
 use borrow.Author.Needs.{needs}
 use lib.ListN.{length}
 use Rattle.list_frames.specs.declared.Waiting.{Waiting}
-use Rattle.list_frames.proofs.hear.Statement.{statement}
-use Rattle.list_frames.proofs.hear.Tie as tie
+use Rattle.list_frames.proofs.list_block.Statement.{statement}
+use Rattle.list_frames.proofs.list_block.Tie as tie
 
 abbrev Inv-loop : tie.InvT-loop
 Inv-loop block text₀ out₀ received₀ waiting₀ i₀ text out received waiting i =
@@ -65,8 +65,8 @@ same-length c = search needs
 returns : tie.Need-returns Inv-loop μ-loop
 returns c = search needs
 
-pub hear-spec : {M : Type 1} → statement M
-hear-spec =
+pub list-block-spec : {M : Type 1} → statement M
+list-block-spec =
     tie.close
     (tie.spec
     Inv-loop
