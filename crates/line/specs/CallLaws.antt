@@ -5,7 +5,7 @@ use mathlib.Core.Path.{_≡_, refl, ap, _∙_}
 use mathlib.Core.Logic.{_⊎_, inl, inr}
 use mathlib.Core.Bool.{Bool, true, false}
 use mathlib.Core.List.{List, [], _∷_, _++_, map, append-nil, append-assoc}
-use mathlib.Core.List.{List·Memᴰ, List·Memᴰ·head, List·Memᴰ·tail, Memᴰ·append-right, List·Memᴰ·append-cases}
+use mathlib.Core.List.{List·Memᴰ, Memᴰ·append-right, List·Memᴰ·append-cases}
 use lib.ListN.{length, take, drop, length-append, length-drop, length-replicate}
 use lib.Seq.{take-append-seam}
 use lib.Dec.{leb}
@@ -13,29 +13,15 @@ use borrow.Author.Tests.{leb-true, leb-false, le-leb}
 use Rattle.frame.specs.Memory.{Outcome, outcome, pick}
 use Rattle.frame.specs.RecognitionLaws.{open-most}
 use Rattle.line.specs.Line.{Symbol, byte, Certain}
-use Rattle.line.specs.Places.{Found, AllAbove, Rising, joined}
+use Rattle.line.specs.Places.{Found, Rising, joined}
+use Rattle.line.specs.PlaceLaws.{joined-append, once}
 use Rattle.line.specs.Scan.{scan}
 use Rattle.line.specs.ScanLaws.{scan-rising, scan-kept-open, place-joined, place-count, place-kept, one-more}
 use Rattle.line.specs.ScanCertain.{found-certain, certain-found}
-use Rattle.line.specs.Receiver.{fresh, keptBytes, isOpen, withinRange, refused, readingWith, keeping, delivered, called}
+use Rattle.line.specs.Receiver.{fresh, keptBytes, withinRange, refused, readingWith, keeping, delivered, called}
 use Rattle.line.specs.declared.Receiver.{Receiver}
 use Rattle.line.specs.declared.Received.{Received}
 use Rattle.line.specs.declared.Answer.the-variants.{Refused, Delivered}
-
--- The bytes of frames joined are their bytes joined.
-joined-append : (a b : List Found) → joined (a ++ b) ≡ joined a ++ joined b
-unfolding joined
-joined-append [] b = refl
-joined-append (f ∷ a) b = rw (joined-append a b, append-assoc)
-
--- A frame of a list stands above what all its places are above, and of rising frames none stands twice.
-above-member : {p : ℕ} {f : Found} {l : List Found} → List·Memᴰ f l → AllAbove p l → p < f .place
-above-member (List·Memᴰ·head e) h = rw e (h .0)
-above-member (List·Memᴰ·tail m) h = above-member m (h .1)
-
-once : {f : Found} {a : List Found} (b : List Found) → List·Memᴰ f a → Rising (a ++ b) → List·Memᴰ f b → ⊥
-once b (List·Memᴰ·head {xs = a} e) h m = omega (arith, ap (λ (f : Found). f .place) e, above-member (Memᴰ·append-right a m) (h .0))
-once b (List·Memᴰ·tail k) h m = once b k (h .1) m
 
 -- The frames that the scan finds with one symbol more.
 unfoldable pub newFrames : List Symbol → Symbol → List Found
@@ -113,7 +99,7 @@ module _ {x : List Symbol} {r : Receiver} (s : Symbol) (h : HasReceived x r) whe
 
 -- It is within its range, so a call looks at the memory.
 within : {x : List Symbol} {r : Receiver} → HasReceived x r → withinRange r ≡ true
-unfolding withinRange isOpen
+unfolding withinRange
 within {x} {r} h = rw (le-leb (r .count) 211 (received-most h), h .bytes, scan-kept-open 0 0 x)
 
 called-within : {x : List Symbol} {r : Receiver} (s : Symbol) (m : List ℕ) → HasReceived x r →

@@ -16,6 +16,7 @@ use Rattle.frame.specs.declared.Recognised.{Recognised}
 use Rattle.frame.specs.declared.Recognised.the-variants.{Whole, Open, Neither}
 use Rattle.line.specs.Line.{byte}
 use Rattle.line.specs.Places.{Found, joined}
+use Rattle.line.specs.PlaceLaws.{joined-append}
 use Rattle.line.specs.Scan.{Reading, scan, begins, bytesBefore, broken, settled, readingBy, before}
 use Rattle.line.specs.Drain.{symbols, readingFrom, behind, Drains, Settles}
 use Rattle.line.specs.declared.drain.Drained.{Drained}
@@ -175,8 +176,7 @@ behind-more fs p f r = λ i. record { frames = sym (append-assoc fs (record { pl
 
 joined-more : (fs : List Found) (p : ℕ) (f : List ℕ) → joined (fs ++ (record { place = p; frame = f } ∷ [])) ≡ joined fs ++ f
 unfolding joined
-joined-more [] p f = append-nil f
-joined-more (g ∷ fs) p f = ap (λ (l : List ℕ). g .frame ++ l) (joined-more fs p f) ∙ sym (append-assoc (g .frame) (joined fs) f)
+joined-more fs p f = joined-append fs (record { place = p; frame = f } ∷ []) ∙ ap (λ (l : List ℕ). joined fs ++ l) (append-nil f)
 
 module _ (line : List ℕ) (start : ℕ) (closed : Bool) (m₀ m : List ℕ) (at written count : ℕ) (d : Draining line start closed m₀ m at written count) where
   -- A turn that drops a byte.

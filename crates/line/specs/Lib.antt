@@ -1,7 +1,9 @@
 pub mod Line
 pub mod Reading
 pub mod Places
+pub mod PlaceLaws
 pub mod Scan
+pub mod BeginsLaws
 pub mod ScanLaws
 pub mod TakenLaws
 pub mod ScanCertain

@@ -29,7 +29,7 @@ unfoldable pub keptBytes : Receiver → List ℕ
 keptBytes r = take (r .count) (r .kept)
 
 -- The bytes are a proper beginning of a frame.
-unfoldable pub isOpen : Recognised → Bool
+abbrev pub isOpen : Recognised → Bool
 isOpen (Whole n) = false
 isOpen Open = true
 isOpen Neither = false

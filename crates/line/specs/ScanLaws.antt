@@ -13,6 +13,7 @@ use Rattle.frame.specs.declared.Recognised.{Recognised}
 use Rattle.frame.specs.declared.Recognised.the-variants.{Whole, Open, Neither}
 use Rattle.line.specs.Line.{Symbol, byte, silence}
 use Rattle.line.specs.Places.{Found, AllAbove, Rising, joined}
+use Rattle.line.specs.BeginsLaws.{settled-whole, begins-open, unbroken, bytes-length}
 use Rattle.line.specs.Scan.{Reading, bytesBefore, broken, settled, begins, before, readingBy, scan}
 
 -- The ways of the scan: at the end, past a covered symbol, past the first symbol of a frame, to a stop, past a symbol dropped.
@@ -59,18 +60,6 @@ scans-rising (drops e w) = scans-rising w
 pub scan-rising : (place k : ℕ) (x : List Symbol) → Rising (scan place k x .frames)
 scan-rising place k x = scans-rising (scans place k x)
 
--- Symbols that are open have no silence among them, and their bytes are open.
-settled-open : (b : Bool) (r : Recognised) → settled b r ≡ Open → (b ≡ false) × (r ≡ Open)
-unfolding settled
-settled-open b (Whole n) e = (cc, cc)
-settled-open true Open e = (cc, cc)
-settled-open false Open e = (refl, refl)
-settled-open b Neither e = (cc, cc)
-
-begins-open : (x : List Symbol) → begins x ≡ Open → (broken x ≡ false) × (recognised (bytesBefore x) ≡ Open)
-unfolding begins
-begins-open x e = settled-open (broken x) (recognised (bytesBefore x)) e
-
 -- What is kept is open.
 scans-open : {place k : ℕ} {x : List Symbol} {r : Reading} → Scans place k x r → recognised (r .kept) ≡ Open
 unfolding before
@@ -114,13 +103,6 @@ module _ (p q : ℕ) (x : List Symbol) where
   pub place-kept : scan p 0 x .kept ≡ scan q 0 x .kept
   place-kept = alike p q 0 x .kept
 
--- Symbols with no silence among them are their bytes.
-pub unbroken : (x : List Symbol) → broken x ≡ false → map byte (bytesBefore x) ≡ x
-unfolding broken bytesBefore
-unbroken [] e = refl
-unbroken (byte b ∷ x) e = ap (λ (l : List Symbol). byte b ∷ l) (unbroken x e)
-unbroken (silence ∷ x) e = cc
-
 -- The bytes before the first silence of symbols joined, and whether there is one.
 pub bytes-then : (x y : List Symbol) → bytesBefore (x ++ y) ≡ bytesBefore x ++ pick (broken x) [] (bytesBefore y)
 unfolding broken bytesBefore
@@ -134,21 +116,7 @@ broken-then [] y e = cc
 broken-then (byte b ∷ x) y e = broken-then x y e
 broken-then (silence ∷ x) y e = refl
 
--- No more bytes than symbols.
-pub bytes-length : (x : List Symbol) → length (bytesBefore x) ≤ length x
-unfolding bytesBefore
-bytes-length [] = omega arith
-bytes-length (byte b ∷ x) = omega (arith, bytes-length x)
-bytes-length (silence ∷ x) = omega arith
-
 -- Symbols that begin with a frame: its bytes stand before any silence, and they stay when more symbols come.
-settled-whole : (b : Bool) (r : Recognised) (n : ℕ) → settled b r ≡ Whole n → r ≡ Whole n
-unfolding settled
-settled-whole b (Whole m) n e = e
-settled-whole true Open n e = cc
-settled-whole false Open n e = e
-settled-whole b Neither n e = e
-
 module _ (x : List Symbol) (n : ℕ) (e : begins x ≡ Whole n) where
   pub begins-whole : recognised (bytesBefore x) ≡ Whole n
   unfolding begins

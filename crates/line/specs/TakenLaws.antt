@@ -3,9 +3,9 @@ use Prim.Native.Nat.{ℕ, zero, suc, _+_, _-_, _≤_, _<_}
 use native.Mathlib.Omega.{arith}
 use native.Mathlib.Decide.{decLt}
 use native.Mathlib.Numerals.{add-one}
-use mathlib.Core.Path.{_≡_, refl, _∙_, ap, ap₂, subst}
+use mathlib.Core.Path.{_≡_, refl, sym, _∙_, ap, ap₂, subst}
 use mathlib.Core.Logic.{_⊎_, inl, inr, ⊎-elim, ⊎-map}
-use mathlib.Core.Bool.{Bool, true, false}
+use mathlib.Core.Bool.{false}
 use mathlib.Core.List.{
   List,
   [],
@@ -29,6 +29,7 @@ use Rattle.frame.specs.declared.Recognised.{Recognised}
 use Rattle.frame.specs.declared.Recognised.the-variants.{Whole, Open, Neither}
 use Rattle.line.specs.Line.{Symbol, byte, silence, Stands, Choice, Covered, Keeps}
 use Rattle.line.specs.Places.{Found}
+use Rattle.line.specs.BeginsLaws.{settled-whole, begins-open, unbroken, bytes-length}
 use Rattle.line.specs.Scan.{Reading, bytesBefore, broken, settled, begins, before, readingBy, scan}
 use Rattle.frame.specs.RecognitionLaws.{
   frame-least,
@@ -59,22 +60,6 @@ front (byte a ∷ x) more (b ∷ f) e = go (front x more f (cc))
     go (within rest p) = within rest (cc)
     go (beyond rest some whole p) = beyond rest some whole (cc)
 
--- What is settled as a whole frame was recognised as one.
-settled-whole : (b : Bool) (r : Recognised) (n : ℕ) → settled b r ≡ Whole n → r ≡ Whole n
-unfolding settled
-settled-whole b (Whole m) n e = e
-settled-whole true Open n e = cc
-settled-whole false Open n e = e
-settled-whole b Neither n e = e
-
--- What is settled as open was recognised as that, and no silence follows.
-settled-open : (b : Bool) (r : Recognised) → settled b r ≡ Open → (b ≡ false) × (r ≡ Open)
-unfolding settled
-settled-open b (Whole n) e = (cc, cc)
-settled-open true Open e = (cc, refl)
-settled-open false Open e = (refl, refl)
-settled-open b Neither e = (cc, cc)
-
 -- Symbols begin with that frame, or may still become a frame.
 data Begins (x : List Symbol) (f : List ℕ) : Type 0 where
   whole : begins x ≡ Whole (length f) → f ≡ take (length f) (bytesBefore x) → Begins x f
@@ -98,13 +83,6 @@ bytes-front (suc n) [] more h = absurd (omega arith)
 bytes-front (suc n) (byte b ∷ x) more h = ap (λ (l : List Symbol). byte b ∷ l) (bytes-front n x more (omega arith))
 bytes-front (suc n) (silence ∷ x) more h = absurd (omega arith)
 
--- There are no more bytes than symbols.
-bytes-most : (x : List Symbol) → length (bytesBefore x) ≤ length x
-unfolding bytesBefore
-bytes-most [] = omega arith
-bytes-most (byte b ∷ x) = omega (arith, bytes-most x)
-bytes-most (silence ∷ x) = omega arith
-
 -- The first n bytes of symbols are a frame, which stands in front, whatever follows.
 pub record Begun (x : List Symbol) (n : ℕ) : Type 0 where
   pub whole : Frame (take n (bytesBefore x))
@@ -121,7 +99,7 @@ begins-whole x n e =
       whole = frame;
       long = long;
       some = omega (arith, long, frame-least frame);
-      fits = omega (arith, fits, bytes-most x);
+      fits = omega (arith, fits, bytes-length x);
       there = λ more. bytes-front n x more fits;
     }
   where
@@ -145,13 +123,6 @@ begins-frame f w = rw (bytes-of f, rw append-nil at (frame-whole f [] w))
     bytes-of : (b : List ℕ) → bytesBefore (map byte b) ≡ b
     bytes-of [] = refl
     bytes-of (a ∷ b) = ap (λ (l : List ℕ). a ∷ l) (bytes-of b)
-
--- Symbols with no silence among them are their bytes.
-unbroken : (x : List Symbol) → broken x ≡ false → x ≡ map byte (bytesBefore x)
-unfolding broken bytesBefore
-unbroken [] e = refl
-unbroken (byte b ∷ x) e = ap (λ (l : List Symbol). byte b ∷ l) (unbroken x e)
-unbroken (silence ∷ x) e = cc
 
 -- What stands after the symbol at a place.
 drop-next : (line : List Symbol) (place : ℕ) {s : Symbol} {x : List Symbol} → drop place line ≡ s ∷ x → drop (suc place) line ≡ x
@@ -294,8 +265,8 @@ module _ (line more : List Symbol) (taken : Choice) where
             let p = whole-passed place (s ∷ x) there free n e in
             read-then p (onward (n - 1) (place + n) (omega arith) (omega arith) (p .free))
         go Open e =
-            let o = settled-open (broken (s ∷ x)) (recognised (bytesBefore (s ∷ x))) e in
-            read-end place (bytesBefore (s ∷ x)) free (o .1) (there ∙ ap (λ (y : List Symbol). y ++ more) (unbroken (s ∷ x) (o .0)))
+            let o = begins-open (s ∷ x) e in
+            read-end place (bytesBefore (s ∷ x)) free (o .1) (there ∙ ap (λ (y : List Symbol). y ++ more) (sym (unbroken (s ∷ x) (o .0))))
         go Neither e =
             let p = neither-passed place (s ∷ x) there free e in
             read-then p (onward 0 (suc place) (omega arith) (omega arith) (p .free))

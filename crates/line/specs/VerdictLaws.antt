@@ -88,24 +88,17 @@ module _ (kept : List ℕ) (n b : ℕ) (fits : n ≤ length kept) where
         front = λ m h. take-append-le m (take n kept) (b ∷ []) (rw kept-length h) ∙ take-take m n kept h;
       }
 
--- A receiver is within its range exactly if it counts at most 211 bytes and they are open.
-pub open-within : (kept : List ℕ) (n : ℕ) → n ≤ 211 → recognised (take n kept) ≡ found.Open → withinRange (receiverOf kept n) ≡ true
-unfolding withinRange keptBytes isOpen
-open-within kept n h e = rw (le-leb n 211 h, e)
-
-pub neither-without : (kept : List ℕ) (n : ℕ) → n ≤ 211 → recognised (take n kept) ≡ found.Neither → withinRange (receiverOf kept n) ≡ false
-unfolding withinRange keptBytes isOpen
-neither-without kept n h e = rw (le-leb n 211 h, e)
-
-pub whole-without : (kept : List ℕ) (n m : ℕ) → n ≤ 211 → recognised (take n kept) ≡ found.Whole m → withinRange (receiverOf kept n) ≡ false
-unfolding withinRange keptBytes isOpen
-whole-without kept n m h e = rw (le-leb n 211 h, e)
+-- A receiver that counts at most 211 bytes is within its range as they are recognised as open or not; one that counts more is not.
+pub within-as : (kept : List ℕ) (n : ℕ) {v : Recognised} → n ≤ 211 → recognised (take n kept) ≡ v → withinRange (receiverOf kept n) ≡ isOpen v
+unfolding withinRange keptBytes
+within-as kept n h e = rw (le-leb n 211 h, e)
 
 pub many-without : (kept : List ℕ) (n : ℕ) → 211 < n → withinRange (receiverOf kept n) ≡ false
 unfolding withinRange
 many-without kept n h = rw (lt-leb n 211 h)
 
--- Where n bytes are kept and the byte b comes.
+-- Where n bytes are kept and the byte b comes: how long the kept bytes are alone and with it, where it stands, and that both lists agree
+-- with the array.
 module _ (kept : List ℕ) (n b : ℕ) (size : length kept ≡ 211) (fits : n ≤ 211) where
   held : n ≤ length kept
   held = omega arith
@@ -136,10 +129,10 @@ module _ (kept : List ℕ) (n b : ℕ) (size : length kept ≡ 211) (fits : n �
   module _ (i : ℕ) (test : List ℕ → Bool) (next : List ℕ → Recognised)
       (reach : (z : List ℕ) → Agrees kept n z → recognised z ≡ stage z i (test z) (next z)) where
     pub bad-at : i < n → test (take n kept) ≡ false → Judges (receiverOf kept n) b Bad
-    bad-at h f = neither-without kept n fits (reach _ old ∙ stage-wrong (take n kept) i _ (rw long h) f)
+    bad-at h f = within-as kept n fits (reach _ old ∙ stage-wrong (take n kept) i _ (rw long h) f)
 
     still-open : n ≤ i → withinRange (receiverOf kept n) ≡ true
-    still-open h = open-within kept n fits (reach _ old ∙ stage-open (take n kept) i (test (take n kept)) (next (take n kept)) (rw long h))
+    still-open h = within-as kept n fits (reach _ old ∙ stage-open (take n kept) i (test (take n kept)) (next (take n kept)) (rw long h))
 
     pub grows-before : n < i → Judges (receiverOf kept n) b Grows
     grows-before h = (still-open (omega arith), reach _ new ∙ stage-open with i (test with) (next with) (rw longer (omega arith)))
@@ -293,9 +286,9 @@ module _ (kept : List ℕ) (n b : ℕ) (size : length kept ≡ 211) (fits : n �
         last-there = rw long h
 
         go : (t u : Bool) → sum-test (take n kept) ≡ t → last-test (take n kept) ≡ u → withinRange (receiverOf kept n) ≡ false
-        go false u p q = neither-without kept n fits (at-sum _ old ∙ stage-wrong (take n kept) m _ sum-there p)
+        go false u p q = within-as kept n fits (at-sum _ old ∙ stage-wrong (take n kept) m _ sum-there p)
         go true false p q =
-            neither-without kept n fits (at-sum _ old ∙ stage-passed (take n kept) m _ sum-there p ∙ stage-wrong (take n kept) (m + 1) _ last-there q)
+            within-as kept n fits (at-sum _ old ∙ stage-passed (take n kept) m _ sum-there p ∙ stage-wrong (take n kept) (m + 1) _ last-there q)
         go true true p q =
-            whole-without kept n (m + 2) fits
+            within-as kept n fits
             (at-sum _ old ∙ stage-passed (take n kept) m _ sum-there p ∙ stage-passed (take n kept) (m + 1) _ last-there q)

@@ -4,7 +4,7 @@ use mathlib.Core.Path.{sym, _∙_}
 use native.Mathlib.Omega.{arith}
 use borrow.Author.Needs.{needs}
 use lib.Seq.{length-take-le}
-use Rattle.line.specs.VerdictLaws.{many-without, open-within, neither-without, whole-without}
+use Rattle.line.specs.VerdictLaws.{many-without, within-as}
 use Rattle.line.proofs.verdict.within_range.Statement.{statement}
 use Rattle.line.proofs.verdict.within_range.Tie as tie
 
@@ -27,13 +27,13 @@ enum-told-3 : tie.Need-enum-told-3
 enum-told-3 c = search needs
 
 returns-2 : tie.Need-returns-2
-returns-2 c = sym (whole-without _ _ _ (omega arith) (sym (c .before .before .recognise .ensures) ∙ c .enum-told .given .1))
+returns-2 c = sym (within-as _ _ (omega arith) (sym (c .before .before .recognise .ensures) ∙ c .enum-told .given .1))
 
 returns-3 : tie.Need-returns-3
-returns-3 c = sym (open-within _ _ (omega arith) (sym (c .before .before .recognise .ensures) ∙ c .enum-told2 .given .1))
+returns-3 c = sym (within-as _ _ (omega arith) (sym (c .before .before .recognise .ensures) ∙ c .enum-told2 .given .1))
 
 returns-4 : tie.Need-returns-4
-returns-4 c = sym (neither-without _ _ (omega arith) (sym (c .before .before .recognise .ensures) ∙ c .enum-told3 .given .1))
+returns-4 c = sym (within-as _ _ (omega arith) (sym (c .before .before .recognise .ensures) ∙ c .enum-told3 .given .1))
 
 pub within-range-spec : {M : Type 1} → statement M
 within-range-spec =
