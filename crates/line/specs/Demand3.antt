@@ -66,6 +66,11 @@ pub record Exactly (member : ℕ → List ℕ → Type 1) : Type 1 where
 abbrev pub Newly : List Symbol → Symbol → ℕ → List ℕ → Type 1
 Newly line s place frame = Certain (line ++ (s ∷ [])) place frame × (Certain line place frame → ⊥)
 
+-- The answer is a refusal.
+abbrev pub IsRefusal : Answer → Type 0
+IsRefusal (Refused n) = Unit
+IsRefusal (Delivered bytes frames) = ⊥
+
 -- A call lent under 212 bytes is refused with 1, and nothing changed.
 pub record Ignored (r : Receiver) (c : Call) : Type 0 where
   pub answer : c .returned .answer ≡ Refused 1
@@ -79,6 +84,7 @@ pub record Counted (line : List Symbol) (c : Call) : Type 1 where
 
 -- What holds of a call, by the line heard before it and the receiver given to it.
 pub record CallIsRight (line : List Symbol) (r : Receiver) (c : Call) : Type 1 where
+  pub refused : IsRefusal (c .returned .answer) ↔ (length (c .lent) < 212)
   pub short : length (c .lent) < 212 → Ignored r c
   pub enough : 212 ≤ length (c .lent) → Counted line c
 
@@ -100,9 +106,17 @@ AnswersOf line r c = Answers line (c .symbol) r (c .lent) (c .returned) (c .left
 -- A call that answers so is right.
 call-right : {line : List Symbol} {r : Receiver} {c : Call} → AnswersOf line r c → CallIsRight line r c
 call-right (ignores l a e m) =
-    record { short = λ h. record { answer = a; receiver = e; memory = m }; enough = λ h. absurd (omega arith) }
+    record {
+      refused = (λ w. l, λ h. rw a tt);
+      short = λ h. record { answer = a; receiver = e; memory = m };
+      enough = λ h. absurd (omega arith);
+    }
 call-right {line} {c = c} (delivers l a e m) =
-    record { short = λ h. absurd (omega arith); enough = λ h. record { new = new; answer = a } }
+    record {
+      refused = (λ w. absurd (rw a at w), λ h. absurd (omega arith));
+      short = λ h. absurd (omega arith);
+      enough = λ h. record { new = new; answer = a };
+    }
   where
     new : Exactly (Newly line (c .symbol))
     new =

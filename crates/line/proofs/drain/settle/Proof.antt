@@ -45,7 +45,7 @@ stopped : (c : tie.After-drain) →
 stopped c =
     let j = c .before .before .before .before in
     let n : length (take (at-start j .args .count + 1) (line j)) ≡ at-start j .args .count + 1 = ap length (front j) ∙ bytes-size (at-start j) in
-    (c .drain .ensures .later, rw n at (c .drain .ensures .within))
+    (omega (arith, c .drain .ensures .later), rw n at (c .drain .ensures .within))
 
 slice-aggregate-join : tie.Need-slice-aggregate-join
 slice-aggregate-join c = search needs
