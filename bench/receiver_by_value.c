@@ -25,19 +25,18 @@ __attribute__((noinline)) static struct received after_silence(struct receiver r
 
 size_t receive_line_by_value(const uint8_t *input, size_t input_len, uint8_t *out, size_t out_len)
 {
-    struct receiver receiver = {{0}, 0};
+    struct received received = {{{0}, 0}, {0, 0, 0}};
     uint8_t lent[LONGEST_FRAME];
     size_t written = 0;
     if (out_len < input_len)
         return SIZE_MAX;
     for (size_t i = 0; i < input_len; i++) {
-        struct received received = after_byte(receiver, input[i], lent, sizeof lent);
-        receiver = received.receiver;
+        received = after_byte(received.receiver, input[i], lent, sizeof lent);
         if (received.answer.bytes > 0)
             memcpy(out + written, lent, received.answer.bytes);
         written += received.answer.bytes;
     }
-    struct received received = after_silence(receiver, lent, sizeof lent);
+    received = after_silence(received.receiver, lent, sizeof lent);
     memcpy(out + written, lent, received.answer.bytes);
     return written + received.answer.bytes;
 }
