@@ -5,6 +5,22 @@ use Prim.Native.Nat.{ℕ}
 abbrev pub shortMemory : ℕ
 shortMemory = 1
 
+-- The bytes are not exactly one frame; nothing changes.
+abbrev pub notOneFrame : ℕ
+notOneFrame = 2
+
+-- A frame that is not for this meter: silence, and nothing changes.
+abbrev pub notForThisMeter : ℕ
+notForThisMeter = 3
+
+-- A frame that is answered by silence by rule; nothing changes.
+abbrev pub silentByRule : ℕ
+silentByRule = 4
+
+-- A bad address for a fresh meter, or a bad direction or rate; nothing changes.
+abbrev pub badArgument : ℕ
+badArgument = 8
+
 -- A receiver or a meter is outside its ranges; nothing changes.
 abbrev pub outOfRange : ℕ
 outOfRange = 16

@@ -2,5 +2,13 @@
 
 // The lent memory is too short; nothing changes.
 pub const SHORT_MEMORY: u8 = 1;
+// The bytes are not exactly one frame; nothing changes.
+pub const NOT_ONE_FRAME: u8 = 2;
+// A frame that is not for this meter: silence, and nothing changes.
+pub const NOT_FOR_THIS_METER: u8 = 3;
+// A frame that is answered by silence by rule; nothing changes.
+pub const SILENT_BY_RULE: u8 = 4;
+// A bad address for a fresh meter, or a bad direction or rate; nothing changes.
+pub const BAD_ARGUMENT: u8 = 8;
 // A receiver or a meter is outside its ranges; nothing changes.
 pub const OUT_OF_RANGE: u8 = 16;

@@ -1,0 +1,69 @@
+-- Document 01, "Written content": decimal over the whole item first, then the ranges. Values stand low byte first.
+use Prim.Native.Nat.{ℕ}
+use mathlib.Core.List.{List}
+use mathlib.Core.Bool.{Bool, true, false, _&&_, _||_}
+use lib.ListN.{getD}
+use lib.Dec.{leb, eqb}
+use Rattle.frame.specs.Memory.{pick}
+use Rattle.item.specs.Decimal.{firstBad, digits}
+use Rattle.item.specs.declared.decimal.Scan.{Scan}
+use Rattle.item.specs.declared.decimal.Scan.the-variants.{AllDecimal, BadAt}
+use Rattle.item.specs.declared.table.Kind.{Kind}
+use Rattle.item.specs.declared.table.Kind.the-variants.{Energy, Date, Time, DemandPeriod, Slip, Address, MeterNumber, FirstSettlementDay, SecondSettlementDay, ThirdSettlementDay}
+use Rattle.item.specs.declared.content.Content.{Content}
+use Rattle.item.specs.declared.content.Content.the-variants.{Allowed, NotDecimal, OutOfRange}
+
+-- The number of the two digits at a place of the value.
+unfoldable pub digitsAt : List ℕ → ℕ → ℕ
+digitsAt value i = digits (getD value i 0)
+
+-- From the least to the most.
+unfoldable pub within : ℕ → ℕ → ℕ → Bool
+within least most n = leb least n && leb n most
+
+-- WW DD MM YY: WW 00..06, DD 01..31, MM 01..12.
+unfoldable pub dateInRange : List ℕ → Bool
+dateInRange value = within 0 6 (digitsAt value 0) && (within 1 31 (digitsAt value 1) && within 1 12 (digitsAt value 2))
+
+-- ss mm hh: ss and mm 00..59, hh 00..23.
+unfoldable pub timeInRange : List ℕ → Bool
+timeInRange value = within 0 59 (digitsAt value 0) && (within 0 59 (digitsAt value 1) && within 0 23 (digitsAt value 2))
+
+-- Minutes: 01..60.
+unfoldable pub minutesInRange : List ℕ → Bool
+minutesInRange value = within 1 60 (digitsAt value 0)
+
+-- 9999 for not set.
+unfoldable pub notSet : List ℕ → Bool
+notSet value = eqb (digitsAt value 0) 99 && eqb (digitsAt value 1) 99
+
+-- hh DD: DD 01..28 with hh 00..23, or not set.
+unfoldable pub settlementDayInRange : List ℕ → Bool
+settlementDayInRange value = notSet value || (within 0 23 (digitsAt value 0) && within 1 28 (digitsAt value 1))
+
+-- The range of each kind of item. A meter number, and what is never written, has none.
+unfoldable pub inRange : Kind → List ℕ → Bool
+inRange (Energy direction rate rates row rows) value = true
+inRange Date value = dateInRange value
+inRange Time value = timeInRange value
+inRange DemandPeriod value = minutesInRange value
+inRange Slip value = minutesInRange value
+inRange Address value = true
+inRange MeterNumber value = true
+inRange FirstSettlementDay value = settlementDayInRange value
+inRange SecondSettlementDay value = settlementDayInRange value
+inRange ThirdSettlementDay value = settlementDayInRange value
+
+-- A half byte above 9 is found before any range is looked at.
+abbrev pub afterScan : Scan → Bool → Content
+afterScan (BadAt i) ranges = NotDecimal i
+afterScan AllDecimal true = Allowed
+afterScan AllDecimal false = OutOfRange
+
+unfoldable pub contentOf : Kind → List ℕ → Content
+contentOf kind value = afterScan (firstBad value) (inRange kind value)
+
+abbrev pub isAllowed : Content → Bool
+isAllowed Allowed = true
+isAllowed (NotDecimal i) = false
+isAllowed OutOfRange = false

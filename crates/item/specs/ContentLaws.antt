@@ -1,0 +1,119 @@
+-- A content is allowed exactly where every half byte is 0 to 9 and document 01's ranges hold.
+use Prim.Native.Nat.{ℕ, _≤_}
+use mathlib.Core.Path.{_≡_, refl, ap}
+use mathlib.Core.List.{List}
+use mathlib.Core.Bool.{Bool, true, false, _&&_, _||_, false≢true, or-true, and-eq-true-iff}
+use mathlib.Core.Logic.{_↔_, Iff·rfl}
+use native.Mathlib.Omega.{arith}
+use lib.Dec.{leb}
+use borrow.Author.Tests.{leb-true, le-leb, eqb-true, eq-eqb}
+use Rattle.item.specs.Decimal.{Decimal, firstBad}
+use Rattle.item.specs.DecimalLaws.{scan-decimal, decimal-scan}
+use Rattle.item.specs.Content.{digitsAt, within, dateInRange, timeInRange, minutesInRange, notSet, settlementDayInRange, inRange, afterScan, contentOf, isAllowed}
+use Rattle.item.specs.declared.decimal.Scan.{Scan}
+use Rattle.item.specs.declared.decimal.Scan.the-variants.{AllDecimal, BadAt}
+use Rattle.item.specs.declared.table.Kind.{Kind}
+use Rattle.item.specs.declared.table.Kind.the-variants.{Energy, Date, Time, DemandPeriod, Slip, Address, MeterNumber, FirstSettlementDay, SecondSettlementDay, ThirdSettlementDay}
+use Rattle.item.specs.declared.content.Content.the-variants.{Allowed}
+
+-- WW 00..06, DD 01..31, MM 01..12.
+pub record DateRange (value : List ℕ) : Type 0 where
+  pub weekday : digitsAt value 0 ≤ 6
+  pub day-least : 1 ≤ digitsAt value 1
+  pub day-most : digitsAt value 1 ≤ 31
+  pub month-least : 1 ≤ digitsAt value 2
+  pub month-most : digitsAt value 2 ≤ 12
+
+-- ss and mm 00..59, hh 00..23.
+pub record TimeRange (value : List ℕ) : Type 0 where
+  pub second : digitsAt value 0 ≤ 59
+  pub minute : digitsAt value 1 ≤ 59
+  pub hour : digitsAt value 2 ≤ 23
+
+-- Period and slip 01..60.
+pub record MinutesRange (value : List ℕ) : Type 0 where
+  pub least : 1 ≤ digitsAt value 0
+  pub most : digitsAt value 0 ≤ 60
+
+-- DD 01..28 with hh 00..23, or 9999 for not set.
+pub data SettlementDayRange (value : List ℕ) : Type 0 where
+  unset : digitsAt value 0 ≡ 99 → digitsAt value 1 ≡ 99 → SettlementDayRange value
+  on-day : digitsAt value 0 ≤ 23 → 1 ≤ digitsAt value 1 → digitsAt value 1 ≤ 28 → SettlementDayRange value
+
+-- The range of each kind of item.
+abbrev pub Range : Kind → List ℕ → Type 0
+Range (Energy direction rate rates row rows) value = Unit
+Range Date value = DateRange value
+Range Time value = TimeRange value
+Range DemandPeriod value = MinutesRange value
+Range Slip value = MinutesRange value
+Range Address value = Unit
+Range MeterNumber value = Unit
+Range FirstSettlementDay value = SettlementDayRange value
+Range SecondSettlementDay value = SettlementDayRange value
+Range ThirdSettlementDay value = SettlementDayRange value
+
+-- Tests of numbers, as what they say.
+leb-iff : (a b : ℕ) → leb a b ≡ true ↔ a ≤ b
+leb-iff a b = (leb-true a b, le-leb a b)
+
+within-iff : (least most n : ℕ) → within least most n ≡ true ↔ ((least ≤ n) × (n ≤ most))
+unfolding within
+within-iff least most n = simp (and-eq-true-iff, leb-iff) Iff·rfl
+
+-- Tests of values: each holds exactly where the value is in its range.
+module _ (value : List ℕ) where
+  date-range : dateInRange value ≡ true ↔ DateRange value
+  unfolding dateInRange
+  date-range = simp (and-eq-true-iff, within-iff) (omega arith)
+
+  time-range : timeInRange value ≡ true ↔ TimeRange value
+  unfolding timeInRange
+  time-range = simp (and-eq-true-iff, within-iff) (omega arith)
+
+  minutes-range : minutesInRange value ≡ true ↔ MinutesRange value
+  unfolding minutesInRange
+  minutes-range = simp within-iff (omega arith)
+
+  settlement-day-range : settlementDayInRange value ≡ true ↔ SettlementDayRange value
+  unfolding settlementDayInRange notSet
+  settlement-day-range = (from-test (notSet value) refl, to-test)
+    where
+      on : Bool
+      on = within 0 23 (digitsAt value 0) && within 1 28 (digitsAt value 1)
+
+      from-test : (t : Bool) → notSet value ≡ t → (t || on) ≡ true → SettlementDayRange value
+      from-test true e h = let both = simp and-eq-true-iff at e in unset (eqb-true _ _ (both .0)) (eqb-true _ _ (both .1))
+      from-test false e h = let both = simp (and-eq-true-iff, within-iff) at h in on-day (both .0 .1) (both .1 .0) (both .1 .1)
+
+      to-test : SettlementDayRange value → (notSet value || on) ≡ true
+      to-test (unset a b) = rw (eq-eqb _ _ a, eq-eqb _ _ b)
+      to-test (on-day a b c) =
+          let holds : on ≡ true = simp (and-eq-true-iff, within-iff) (omega arith) in
+          rw holds (or-true (notSet value))
+
+  in-range : (kind : Kind) → inRange kind value ≡ true ↔ Range kind value
+  unfolding inRange
+  in-range (Energy direction rate rates row rows) = (λ h. tt, λ u. refl)
+  in-range Date = date-range
+  in-range Time = time-range
+  in-range DemandPeriod = minutes-range
+  in-range Slip = minutes-range
+  in-range Address = (λ h. tt, λ u. refl)
+  in-range MeterNumber = (λ h. tt, λ u. refl)
+  in-range FirstSettlementDay = settlement-day-range
+  in-range SecondSettlementDay = settlement-day-range
+  in-range ThirdSettlementDay = settlement-day-range
+
+-- Allowed is what the scan finds nothing in and the ranges hold of.
+after-scan : (scan : Scan) (ranges : Bool) → afterScan scan ranges ≡ Allowed → (scan ≡ AllDecimal) × (ranges ≡ true)
+after-scan AllDecimal true h = (refl, refl)
+after-scan AllDecimal false h = (refl, ap isAllowed h)
+after-scan (BadAt i) ranges h = absurd (false≢true (ap isAllowed h))
+
+pub content-allowed : (kind : Kind) (value : List ℕ) → contentOf kind value ≡ Allowed ↔ (Decimal value × Range kind value)
+unfolding contentOf
+content-allowed kind value = (
+  λ h. let both = after-scan (firstBad value) (inRange kind value) h in (scan-decimal value (both .0), in-range value kind .0 (both .1)),
+  λ h. rw (decimal-scan value (h .0), in-range value kind .1 (h .1)),
+)

@@ -1,0 +1,16 @@
+pub mod Same
+pub mod SameLaws
+pub mod CompareLaws
+pub mod Decimal
+pub mod DecimalLaws
+pub mod ScanLaws
+pub mod PackLaws
+pub mod Table
+pub mod TableLaws
+pub mod Content
+pub mod ContentLaws
+pub mod Address
+pub mod AddressLaws
+pub mod LowBytesLaws
+pub mod Reply
+pub mod Examples
