@@ -1,4 +1,4 @@
--- Laws of memory that is written from the front on: one store, a run of stores, a loop of stores, a part that is lent.
+-- Laws of memory that is written from the front on: one store, a run of stores, a loop of stores, a part that is lent; and of a test.
 use Prim.Native.Nat.{ℕ, zero, suc, _+_, _-_, _≤_, _<_}
 use mathlib.Core.Path.{_≡_, refl, ap, sym, _∙_}
 use mathlib.Core.List.{List, [], _∷_, _++_, map, append-nil, append-assoc, map-append}
@@ -7,7 +7,8 @@ use native.Mathlib.Numerals.{add-one}
 use native.Mathlib.Omega.{arith}
 use lib.ListN.{length, take, drop, getD, set, length-append, length-map, length-set, length-drop, take-append-drop, drop-of-length-le}
 use lib.Seq.{sets, take-all, take-suc, take-at, drop-at, drop-length, drop-drop, append-snoc, length-take-le}
-use Rattle.frame.specs.Memory.{over}
+use mathlib.Core.Bool.{Bool, true, false}
+use Rattle.frame.specs.Memory.{over, pick}
 
 -- What fits is written without a change of the length.
 pub over-length : (xs m : List ℕ) → length xs ≤ length m → length (over xs m) ≡ length m
@@ -112,3 +113,8 @@ module _ {f : ℕ → ℕ} {xs zs : List ℕ} {i : ℕ} where
   in-place-end m h =
       let all : length xs ≤ i = omega arith in
       mapping-end m all ∙ rw (length-map, drop-length) (append-nil (map f xs))
+
+-- What holds of both ways out of a test holds of what it picks.
+pub pick-cases : {A : Type 0} (P : A → Type 0) (t : Bool) {a b : A} → (t ≡ true → P a) → (t ≡ false → P b) → P (pick t a b)
+pick-cases P true first second = first refl
+pick-cases P false first second = second refl

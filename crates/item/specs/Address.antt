@@ -3,8 +3,8 @@
 use Prim.Native.Nat.{ℕ, _+_, _-_, _≤_}
 use mathlib.Core.Path.{_≡_}
 use mathlib.Core.List.{List, [], _∷_}
-use mathlib.Core.Bool.{Bool, true, false, _&&_, not}
-use lib.ListN.{length, take, drop, replicate}
+use mathlib.Core.Bool.{Bool, _&&_, not}
+use lib.ListN.{take, drop, replicate}
 use lib.Dec.{leb, eqb}
 use Rattle.frame.specs.Memory.{pick}
 use Rattle.item.specs.Decimal.{Decimal, allDecimal}

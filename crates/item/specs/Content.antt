@@ -4,7 +4,6 @@ use mathlib.Core.List.{List}
 use mathlib.Core.Bool.{Bool, true, false, _&&_, _||_}
 use lib.ListN.{getD}
 use lib.Dec.{leb, eqb}
-use Rattle.frame.specs.Memory.{pick}
 use Rattle.item.specs.Decimal.{firstBad, digits}
 use Rattle.item.specs.declared.decimal.Scan.{Scan}
 use Rattle.item.specs.declared.decimal.Scan.the-variants.{AllDecimal, BadAt}

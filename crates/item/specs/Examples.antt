@@ -1,18 +1,16 @@
 -- Worked cases that the definitions compute.
-use Prim.Native.Nat.{ℕ}
 use mathlib.Core.Path.{_≡_, refl}
-use mathlib.Core.List.{List, [], _∷_}
+use mathlib.Core.List.{[], _∷_}
 use mathlib.Core.Bool.{true, false}
 use lib.ListN.{replicate}
 use Rattle.item.specs.Decimal.{isDecimal, firstBadFrom, firstBad, allDecimal, digits, lowDigits, packed, unpacked}
 use Rattle.item.specs.Same.{same}
 use Rattle.item.specs.Table.{itemOf, energyItem, readings, readOnly, writableItem, otherRows, found}
-use Rattle.item.specs.Content.{digitsAt, within, dateInRange, timeInRange, minutesInRange, notSet, settlementDayInRange, inRange, contentOf}
-use Rattle.item.specs.Address.{isGood, lowBytes, hasShortForm, isShort, shortMatches}
+use Rattle.item.specs.Content.{digitsAt, within, dateInRange, minutesInRange, notSet, settlementDayInRange, inRange, contentOf}
+use Rattle.item.specs.Address.{isGood, lowBytes, hasShortForm, shortMatches}
 use Rattle.item.specs.Reply.{controlCode, replyTo}
 use Rattle.item.specs.declared.table.Kind.the-variants.{Energy, Date, DemandPeriod, Address, FirstSettlementDay}
 use Rattle.item.specs.declared.table.Lookup.the-variants.{Listed, NotListed}
-use Rattle.item.specs.declared.decimal.Scan.the-variants.{BadAt}
 use Rattle.item.specs.declared.content.Content.the-variants.{Allowed, NotDecimal, OutOfRange}
 
 -- Case B's reading 123456.78 as its four bytes, and back.

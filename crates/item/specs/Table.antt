@@ -2,7 +2,7 @@
 -- number whose highest byte is DI3 and whose lowest is DI0.
 use Prim.Native.Nat.{ℕ, _*_, _/_, _%_}
 use mathlib.Core.List.{List, [], _∷_}
-use mathlib.Core.Bool.{Bool, true, false}
+use mathlib.Core.Bool.{true, false}
 use lib.Dec.{leb, eqb}
 use Rattle.frame.specs.Memory.{pick}
 use Rattle.item.specs.declared.table.Kind.{Kind}

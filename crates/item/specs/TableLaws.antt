@@ -7,6 +7,7 @@ use native.Mathlib.Omega.{arith}
 use lib.Dec.{leb, eqb}
 use borrow.Author.Tests.{leb-true, eqb-true}
 use Rattle.frame.specs.Memory.{pick}
+use Rattle.frame.specs.MemoryLaws.{pick-cases}
 use Rattle.item.specs.Table.{itemOf, energyItem, readings, readOnly, Row, otherRows, found}
 use Rattle.item.specs.declared.table.Kind.{Kind}
 use Rattle.item.specs.declared.table.Kind.the-variants.{Energy, Date, Time, DemandPeriod, Slip, Address, MeterNumber, FirstSettlementDay, SecondSettlementDay, ThirdSettlementDay}
@@ -45,11 +46,6 @@ Proper MeterNumber item = item .writable ≡ true
 Proper FirstSettlementDay item = item .writable ≡ true
 Proper SecondSettlementDay item = item .writable ≡ true
 Proper ThirdSettlementDay item = item .writable ≡ true
-
--- What holds of both ways out of a test holds of what it picks.
-pick-cases : {A : Type 0} (P : A → Type 0) (t : Bool) {a b : A} → (t ≡ true → P a) → (t ≡ false → P b) → P (pick t a b)
-pick-cases P true first second = first refl
-pick-cases P false first second = second refl
 
 -- What holds of every row.
 abbrev pub InRows : (ℕ → Item → Type 0) → List Row → Type 0

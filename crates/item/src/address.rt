@@ -2,7 +2,7 @@
 use crate::decimal::all_decimal;
 use crate::same::same_bytes;
 ghost use mathlib.Core.Path.{_≡_};
-ghost use Rattle.item.specs.Address.{isGood, lowBytes, hasShortForm, isShort, shortMatches};
+ghost use Rattle.item.specs.Address.{isGood, lowBytes, isShort, shortMatches};
 
 pub const BROADCAST: [u8; 6] = [0x99, 0x99, 0x99, 0x99, 0x99, 0x99];
 

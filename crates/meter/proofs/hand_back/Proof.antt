@@ -1,0 +1,13 @@
+-- The struct of both directions is what `Energies::new` makes of them.
+use borrow.Author.Needs.{needs}
+use Rattle.meter.proofs.hand_back.Statement.{statement}
+use Rattle.meter.proofs.hand_back.Tie as tie
+
+new-requires : tie.Need-new-requires
+new-requires c κs = search needs
+
+returns : tie.Need-returns
+returns c = rw (c .new .ensures)
+
+pub hand-back-spec : {M : Type 1} → statement M
+hand-back-spec = tie.close (tie.spec new-requires returns)

@@ -1,0 +1,123 @@
+-- The tests go in the order of `treated`; what is carried out is the front of the array, which holds the data.
+use Prim.Native.Nat.{_≤_}
+use mathlib.Core.Path.{_≡_, sym, _∙_}
+use native.Mathlib.Omega.{arith}
+use borrow.Author.Needs.{needs}
+use borrow.Author.Tests.{not-true, not-false}
+use lib.ListN.{length, take, getD}
+use lib.Seq.{length-take-le}
+use Rattle.frame.specs.Frame.{addressOf, controlOf, lengthOf, dataOf}
+use Rattle.meter.specs.Request.{commandOf, addressed}
+use Rattle.meter.specs.Answer.{treated}
+use Rattle.meter.specs.AnswerSteps.{one-spans, data-fits, data-front}
+use Rattle.meter.specs.declared.request.Asked.the-variants.{Known}
+use Rattle.meter.proofs.treat.treat.Statement.{statement}
+use Rattle.meter.proofs.treat.treat.Tie as tie
+
+abbrev at-start : tie.After-known-told → tie.Start
+at-start c = c .before .before .before .before .before .before
+
+-- the command that the control code asks for
+known : (c : tie.After-known-told) → commandOf (controlOf (at-start c .args .bytes .now)) ≡ Known (c .before .command .given .0 .0)
+unfolding controlOf
+known c = sym (c .before .before .before .command-of .ensures) ∙ c .before .command .given .1
+
+-- whether the frame is for this meter
+addressee : (c : tie.After-is-addressed) → let k = c .before .before .before in
+    addressed (k .before .command .given .0 .0) (addressOf (at-start k .args .bytes .now)) (at-start k .args .meter .address) ≡ c .is-addressed .result
+addressee c = rw (← c .before .address-of .ensures) (sym (c .is-addressed .ensures))
+
+abbrev entry : tie.After-data-of → tie.Start
+entry c = at-start (c .before .before .before .before .before)
+
+-- the data fit the array, and are its front
+fits : (c : tie.After-data-of) → getD (entry c .args .bytes .now) 9 0 ≤ length (c .data-of .result)
+unfolding lengthOf
+fits c = rw (c .data-of .ensures) (data-fits _ (entry c .pre .1))
+
+front : (c : tie.After-data-of) → take (getD (entry c .args .bytes .now) 9 0) (c .data-of .result) ≡ dataOf (entry c .args .bytes .now)
+unfolding lengthOf
+front c = rw (c .data-of .ensures) (data-front _ (entry c .pre .1))
+
+shared-slice-read-command-of : tie.Need-shared-slice-read-command-of
+shared-slice-read-command-of c = omega (arith, one-spans _ (c .before .before .pre .1))
+
+command-of-requires : tie.Need-command-of-requires
+command-of-requires c κs = search needs
+
+enum-known-command : tie.Need-enum-known-command
+enum-known-command c = search needs
+
+enum-told : tie.Need-enum-told
+enum-told c = search needs
+
+silence-requires : tie.Need-silence-requires
+silence-requires c κs = search needs
+
+returns : tie.Need-returns
+unfolding treated controlOf
+returns c =
+    let t = c .before in
+    rw (sym (t .before .before .command-of .ensures) ∙ t .enum-told .given .1) (c .silence .ensures)
+
+address-of-requires : tie.Need-address-of-requires
+address-of-requires c κs = search needs
+
+is-addressed-requires : tie.Need-is-addressed-requires
+is-addressed-requires c κs = search needs
+
+silence-requires-2 : tie.Need-silence-requires-2
+silence-requires-2 c κs = search needs
+
+returns-2 : tie.Need-returns-2
+unfolding treated
+returns-2 c =
+    let t = c .before in
+    rw (known (t .before .before .before .before), addressee (t .before) ∙ not-true _ (t .if1 .taken)) (c .silence2 .ensures)
+
+data-of-requires : tie.Need-data-of-requires
+data-of-requires c κs = search needs
+
+shared-slice-read-length : tie.Need-shared-slice-read-length
+shared-slice-read-length c = omega (arith, one-spans _ (entry (c .before) .pre .1))
+
+cast-length : tie.Need-cast-length
+cast-length c = omega (arith, c .shared-slice-known3 .given 9)
+
+array-share-prefix-meant : tie.Need-array-share-prefix-meant
+array-share-prefix-meant c = fits (c .before)
+
+slice-aggregate-carry-out : tie.Need-slice-aggregate-carry-out
+slice-aggregate-carry-out c = sym (length-take-le _ _ (fits (c .before .before)))
+
+carry-out-requires : tie.Need-carry-out-requires
+carry-out-requires c κs = search needs
+
+returns-3 : tie.Need-returns-3
+unfolding treated
+returns-3 c =
+    let d = c .before .before .before in
+    let e = d .before in
+    rw (known (e .before .before .before .before), addressee (e .before) ∙ not-false _ (e .if1 .left), ← front d) (c .carry-out .ensures)
+
+pub treat-spec : {M : Type 1} → statement M
+treat-spec =
+    tie.close
+    (tie.spec
+    shared-slice-read-command-of
+    command-of-requires
+    enum-known-command
+    enum-told
+    silence-requires
+    returns
+    address-of-requires
+    is-addressed-requires
+    silence-requires-2
+    returns-2
+    data-of-requires
+    shared-slice-read-length
+    cast-length
+    array-share-prefix-meant
+    slice-aggregate-carry-out
+    carry-out-requires
+    returns-3)

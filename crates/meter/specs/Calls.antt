@@ -1,0 +1,183 @@
+-- Operations keep a meter within its ranges, so that no calls from a fresh meter lead to 16.
+use Prim.Native.Nat.{ℕ, zero, suc}
+use mathlib.Core.Path.{_≡_, ap}
+use mathlib.Core.List.{List, [], _∷_}
+use mathlib.Core.Bool.{Bool, true, _&&_}
+use native.Mathlib.Omega.{arith}
+use lib.ListN.{getD, set, take}
+use lib.Dec.{leb, eqb}
+use Rattle.frame.specs.Frame.{dataOf}
+use Rattle.frame.specs.Refusals.{outOfRange}
+use Rattle.item.specs.Address.{Good}
+use Rattle.item.specs.AddressLaws.{is-good}
+use Rattle.item.specs.Content.{within}
+use Rattle.item.specs.Decimal.{isDecimal, firstBadFrom, firstBad, allDecimal}
+use Rattle.frame.specs.MemoryLaws.{pick-cases}
+use Rattle.meter.specs.Reading.{Reading, zeroReading, readingInRange, plusAmount}
+use Rattle.meter.specs.Energies.{Rows, zeroRows, rowInRange, rowsInRange, pulsed, settled}
+use Rattle.meter.specs.Meter.{withKey, withinRanges, freshMeter}
+use Rattle.meter.specs.Ranges.{RowInRange, RowsInRange, InRanges, reading-most, within-ranges, ranges-again}
+use Rattle.meter.specs.Host.{created, keySet, pulsedBy, settledBy}
+use Rattle.meter.specs.Answer.{delivered, answered}
+use Rattle.meter.specs.AfterLaws.{ranges-after}
+use Rattle.meter.specs.AnswerLaws.{Answers, refuses, errs, carries, answers}
+use Rattle.meter.specs.declared.Counted.{Counted}
+use Rattle.meter.specs.declared.Meter.{Meter}
+use Rattle.meter.specs.declared.HostAnswer.{HostAnswer}
+use Rattle.meter.specs.declared.HostAnswer.the-variants as host
+use Rattle.meter.specs.declared.FrameAnswer.{FrameAnswer}
+use Rattle.meter.specs.declared.FrameAnswer.the-variants as frames
+
+-- A meter with its readings.
+pub record State : Type 0 where
+  pub meter : Meter
+  pub forward : Rows
+  pub reverse : Rows
+
+-- A call, with all that it is given besides the meter.
+pub data Call : Type 0 where
+  key : Bool → Call
+  pulse : ℕ → ℕ → ℕ → Call
+  settle : Call
+  frame : List ℕ → List ℕ → Call
+
+-- What a call leaves, by the definitions that the operations' contracts cite.
+unfoldable pub after : Call → State → State
+after (key on) s = record { meter = keySet on (s .meter) (s .forward) (s .reverse) .meter; forward = s .forward; reverse = s .reverse }
+after (pulse amount direction rate) s =
+    let c = pulsedBy amount direction rate (s .meter) (s .forward) (s .reverse) in
+    record { meter = s .meter; forward = c .energies .forward; reverse = c .energies .reverse }
+after settle s =
+    let c = settledBy (s .meter) (s .forward) (s .reverse) in
+    record { meter = s .meter; forward = c .energies .forward; reverse = c .energies .reverse }
+after (frame bytes memory) s =
+    record { meter = answered bytes (s .meter) (s .forward) (s .reverse) memory .answer .meter; forward = s .forward; reverse = s .reverse }
+
+unfoldable pub afterAll : List Call → State → State
+afterAll [] s = s
+afterAll (c ∷ calls) s = afterAll calls (after c s)
+
+-- A call is refused with 16.
+abbrev pub Refused16 : Call → State → Type 0
+Refused16 (key on) s = keySet on (s .meter) (s .forward) (s .reverse) .answer ≡ host.Refused outOfRange
+Refused16 (pulse amount direction rate) s =
+    pulsedBy amount direction rate (s .meter) (s .forward) (s .reverse) .answer ≡ host.Refused outOfRange
+Refused16 settle s = settledBy (s .meter) (s .forward) (s .reverse) .answer ≡ host.Refused outOfRange
+Refused16 (frame bytes memory) s =
+    answered bytes (s .meter) (s .forward) (s .reverse) memory .answer .answer ≡ frames.Refused outOfRange
+
+-- A fresh meter with its readings.
+abbrev pub freshState : List ℕ → State
+freshState address =
+    let c = created address in
+    record { meter = c .meter; forward = c .energies .forward; reverse = c .energies .reverse }
+
+-- A pulse and a settlement keep readings within their range.
+set-in-range : (row : List Reading) (i : ℕ) (reading : Reading) → RowInRange row → readingInRange reading ≡ true → RowInRange (set row i reading)
+set-in-range [] i reading h r = tt
+set-in-range (x ∷ row) zero reading h r = (r, h .1)
+set-in-range (x ∷ row) (suc i) reading h r = (h .0, set-in-range row i reading (h .1) r)
+
+plus-in-range : (reading : Reading) (amount : ℕ) → readingInRange (plusAmount reading amount) ≡ true
+unfolding plusAmount
+plus-in-range reading amount = reading-most _ .1 (omega arith)
+
+pulsed-in-range : (rows : Rows) (amount rate : ℕ) → RowsInRange rows → RowsInRange (pulsed rows amount rate)
+unfolding pulsed
+pulsed-in-range [] amount rate h = tt
+pulsed-in-range (row ∷ rows) amount rate h =
+    let total : List Reading = set row 0 (plusAmount (getD row 0 zeroReading) amount) in
+    let first : RowInRange total = set-in-range row 0 _ (h .0) (plus-in-range (getD row 0 zeroReading) amount) in
+    (set-in-range total rate _ first (plus-in-range (getD row rate zeroReading) amount), h .1)
+
+take-in-range : (n : ℕ) (rows : Rows) → RowsInRange rows → RowsInRange (take n rows)
+take-in-range zero rows h = tt
+take-in-range (suc n) [] h = tt
+take-in-range (suc n) (row ∷ rows) h = (h .0, take-in-range n rows (h .1))
+
+settled-in-range : (rows : Rows) → RowsInRange rows → RowsInRange (settled rows)
+unfolding settled
+settled-in-range [] h = tt
+settled-in-range (row ∷ rows) h = (h .0, take-in-range 12 (row ∷ rows) h)
+
+-- What each call hands back is within the ranges, and its answer is not 16.
+abbrev Kept : Meter → Rows → Rows → Type 0 → Type 0
+Kept m forward reverse Refused = InRanges m forward reverse × (Refused → ⊥)
+
+-- The number of a refusal; 0 stands for none.
+abbrev hostNumber : HostAnswer → ℕ
+hostNumber host.Done = 0
+hostNumber (host.Refused n) = n
+
+abbrev frameNumber : FrameAnswer → ℕ
+frameNumber (frames.Replied n) = 0
+frameNumber (frames.Refused n) = n
+
+module _ (m : Meter) (forward reverse : Rows) (h : InRanges m forward reverse) where
+  key-kept : (on : Bool) → let k = keySet on m forward reverse in Kept (k .meter) forward reverse (k .answer ≡ host.Refused outOfRange)
+  unfolding keySet
+  key-kept on = rw (within-ranges m forward reverse .1 h) (ranges-again h (withKey on m) (h .address) (h .registers), λ r. omega (arith, ap hostNumber r))
+
+  -- Other readings within their range.
+  readings-again : {f r : Rows} → RowsInRange f → RowsInRange r → InRanges m f r
+  readings-again f r = record { address = h .address; registers = h .registers; forward-readings = f; reverse-readings = r }
+
+  abbrev CountedKept : Counted → Type 0
+  CountedKept c = Kept m (c .energies .forward) (c .energies .reverse) (c .answer ≡ host.Refused outOfRange)
+
+  pulse-kept : (amount direction rate : ℕ) → CountedKept (pulsedBy amount direction rate m forward reverse)
+  unfolding pulsedBy
+  pulse-kept amount direction rate =
+      rw (within-ranges m forward reverse .1 h)
+      (pick-cases CountedKept (leb direction 1 && within 1 4 rate)
+      (λ _. pick-cases CountedKept (eqb direction 0)
+      (λ _. (readings-again (pulsed-in-range forward amount rate (h .forward-readings)) (h .reverse-readings), λ r. omega (arith, ap hostNumber r)))
+      (λ _. (readings-again (h .forward-readings) (pulsed-in-range reverse amount rate (h .reverse-readings)), λ r. omega (arith, ap hostNumber r))))
+      (λ _. (h, λ r. omega (arith, ap hostNumber r))))
+
+  settle-kept : CountedKept (settledBy m forward reverse)
+  unfolding settledBy
+  settle-kept =
+      rw (within-ranges m forward reverse .1 h)
+      (readings-again (settled-in-range forward (h .forward-readings)) (settled-in-range reverse (h .reverse-readings)), λ r. omega (arith, ap hostNumber r))
+
+  frame-kept : (bytes memory : List ℕ) → let a = answered bytes m forward reverse memory .answer in
+      Kept (a .meter) forward reverse (a .answer ≡ frames.Refused outOfRange)
+  unfolding delivered
+  frame-kept bytes memory = go (answers bytes m forward reverse memory)
+    where
+      go : Answers bytes m forward reverse memory → let a = answered bytes m forward reverse memory .answer in
+          Kept (a .meter) forward reverse (a .answer ≡ frames.Refused outOfRange)
+      go (refuses n small e) = rw e (h, λ r. omega (arith, small h, ap frameNumber r))
+      go (errs command b w loud e) = rw e (h, λ r. omega (arith, ap frameNumber r))
+      go (carries command w all e) = rw e (ranges-after command (dataOf bytes) m forward reverse h all, λ r. omega (arith, ap frameNumber r))
+
+kept : (c : Call) (s : State) → InRanges (s .meter) (s .forward) (s .reverse)
+    → Kept (after c s .meter) (after c s .forward) (after c s .reverse) (Refused16 c s)
+unfolding after
+kept (key on) s h = key-kept (s .meter) (s .forward) (s .reverse) h on
+kept (pulse amount direction rate) s h = pulse-kept (s .meter) (s .forward) (s .reverse) h amount direction rate
+kept settle s h = settle-kept (s .meter) (s .forward) (s .reverse) h
+kept (frame bytes memory) s h = frame-kept (s .meter) (s .forward) (s .reverse) h bytes memory
+
+-- Each operation keeps a meter within its ranges.
+pub keeps-within : (c : Call) (s : State) → InRanges (s .meter) (s .forward) (s .reverse)
+    → InRanges (after c s .meter) (after c s .forward) (after c s .reverse)
+keeps-within c s h = kept c s h .0
+
+all-within : (calls : List Call) (s : State) → InRanges (s .meter) (s .forward) (s .reverse)
+    → InRanges (afterAll calls s .meter) (afterAll calls s .forward) (afterAll calls s .reverse)
+unfolding afterAll
+all-within [] s h = h
+all-within (c ∷ calls) s h = all-within calls (after c s) (keeps-within c s h)
+
+-- A fresh meter is within its ranges.
+fresh-within : (address : List ℕ) → Good address → InRanges (freshMeter address) zeroRows zeroRows
+unfolding freshMeter withinRanges allDecimal firstBad firstBadFrom isDecimal rowsInRange rowInRange readingInRange
+fresh-within address h = within-ranges (freshMeter address) zeroRows zeroRows .0 (rw (is-good address h))
+
+-- No calls from a fresh meter lead to 16.
+pub never-out-of-range : (address : List ℕ) → Good address → (calls : List Call) (c : Call) → Refused16 c (afterAll calls (freshState address)) → ⊥
+unfolding created
+never-out-of-range address good calls c h =
+    kept c (afterAll calls (freshState address)) (all-within calls (freshState address) (fresh-within address good)) .1 h

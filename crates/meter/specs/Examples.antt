@@ -1,0 +1,58 @@
+-- Document 01's cases A to E put to a meter of address 000000000001.
+use mathlib.Core.Path.{_≡_, refl}
+use mathlib.Core.List.{[], _∷_}
+use mathlib.Core.Bool.{true}
+use lib.ListN.{replicate}
+use Rattle.frame.specs.Examples.{one, caseA, caseC, caseE}
+use Rattle.frame.specs.Frame.{total, checksumOf, masked, unmasked, summed, frameOf, addressOf, controlOf, lengthOf, fieldOf, dataOf}
+use Rattle.frame.specs.Writing.{frameFor}
+use Rattle.item.specs.Content.{digitsAt, within, minutesInRange, inRange, contentOf}
+use Rattle.item.specs.Decimal.{isDecimal, firstBadFrom, firstBad, digits, lowDigits, packed}
+use Rattle.item.specs.Reply.{controlCode, replyTo}
+use Rattle.item.specs.Same.{same}
+use Rattle.item.specs.Table.{itemOf, energyItem, readings, otherRows, found}
+use Rattle.meter.specs.Reading.{readingBytes}
+use Rattle.meter.specs.Energies.{Rows, zeroRows, readingAt, columnBytes, columnsBytes}
+use Rattle.meter.specs.Meter.{withPart, withKey, passwordAt, placeOf, heldAt, valueHeld, withValue, freshMeter}
+use Rattle.meter.specs.Request.{commandOf, addressed, identifierOf, itemAsked, levelOf, passwordOf, operatorOf, writtenValue}
+use Rattle.meter.specs.Answer.{replies, firstFailing, authorised, checksOf, replyData, meterAfter, carriedOut, treated}
+
+-- A forward total of 123456.78 kWh.
+abbrev forward : Rows
+forward = (12345678 ∷ replicate 4 0) ∷ replicate 12 (replicate 5 0)
+
+-- A is answered with B's data.
+read-total : treated caseA (freshMeter one) forward zeroRows
+    ≡ replies 0x91 (0x00 ∷ 0x00 ∷ 0x01 ∷ 0x00 ∷ 0x78 ∷ 0x56 ∷ 0x34 ∷ 0x12 ∷ []) (freshMeter one)
+unfolding treated commandOf controlOf addressed addressOf freshMeter same carriedOut firstFailing checksOf dataOf fieldOf lengthOf unmasked itemAsked identifierOf itemOf energyItem readings replyTo controlCode replyData valueHeld placeOf heldAt columnsBytes columnBytes readingAt readingBytes packed lowDigits meterAfter
+read-total = refl
+
+-- An unknown identifier is answered with D's data.
+read-unknown : treated (frameFor one 0x11 (0x00 ∷ 0x01 ∷ 0x01 ∷ 0x02 ∷ [])) (freshMeter one) forward zeroRows ≡ replies 0xD1 (0x02 ∷ []) (freshMeter one)
+unfolding frameFor frameOf summed masked checksumOf total treated commandOf controlOf addressed addressOf freshMeter same carriedOut firstFailing checksOf dataOf fieldOf lengthOf unmasked itemAsked identifierOf itemOf found otherRows replyTo controlCode
+read-unknown = refl
+
+-- C is answered with the address.
+read-address : treated caseC (freshMeter one) forward zeroRows ≡ replies 0x93 one (freshMeter one)
+unfolding treated commandOf controlOf addressed addressOf freshMeter same carriedOut firstFailing checksOf dataOf fieldOf lengthOf unmasked replyTo controlCode replyData meterAfter
+read-address = refl
+
+-- E, with the key on: the demand period is 30, at the eighth byte of the registers.
+write-period : treated caseE (withKey true (freshMeter one)) forward zeroRows
+    ≡ replies 0x94 []
+    (record {
+      address = one;
+      key = true;
+      passwords = replicate 30 0;
+      operator = replicate 4 0;
+      registers =
+          0x06 ∷ 0x01 ∷ 0x01 ∷ 0x00 ∷ 0x00 ∷ 0x00 ∷ 0x00 ∷ 0x30 ∷ 0x01 ∷ 0x00 ∷ 0x00 ∷ 0x00 ∷ 0x00 ∷ 0x00 ∷ 0x00 ∷ 0x00 ∷ 0x01 ∷ 0x99 ∷ 0x99
+          ∷ 0x99 ∷ 0x99 ∷ [];
+    })
+unfolding treated commandOf controlOf addressed addressOf freshMeter same carriedOut firstFailing checksOf dataOf fieldOf lengthOf unmasked itemAsked identifierOf itemOf found otherRows levelOf passwordOf operatorOf writtenValue authorised passwordAt within contentOf firstBad firstBadFrom isDecimal inRange minutesInRange digitsAt digits replyTo controlCode replyData meterAfter withValue placeOf withPart
+write-period = refl
+
+-- E, with the key off: error 04.
+write-without-key : treated caseE (freshMeter one) forward zeroRows ≡ replies 0xD4 (0x04 ∷ []) (freshMeter one)
+unfolding treated commandOf controlOf addressed addressOf freshMeter same carriedOut firstFailing checksOf dataOf fieldOf lengthOf unmasked itemAsked identifierOf itemOf found otherRows levelOf passwordOf operatorOf writtenValue authorised passwordAt within contentOf firstBad firstBadFrom isDecimal inRange minutesInRange digitsAt digits replyTo controlCode replyData meterAfter withValue placeOf withPart
+write-without-key = refl

@@ -1,0 +1,243 @@
+-- Demand 2 of the letter, for writes: a write sets the one register that it names, and the operator code beside it, exactly when
+-- every listed check holds; otherwise nothing moves.
+use Prim.Native.Nat.{ℕ, zero, suc, _+_, _≤_, _<_}
+use mathlib.Core.Path.{_≡_, refl, sym, ap, _∙_}
+use mathlib.Core.List.{List, [], _∷_, _++_, append-nil}
+use mathlib.Core.Bool.{Bool, true, false, true≢false}
+use native.Mathlib.Omega.{arith}
+use lib.ListN.{length, getD, take, length-append}
+use lib.Seq.{length-take-le, getD-take, take-all}
+use borrow.Author.Tests.{eq-eqb}
+use Rattle.frame.specs.Memory.{outcome, over}
+use Rattle.frame.specs.Frame.{Frame, Bytes, addressOf, controlOf, dataOf}
+use Rattle.frame.specs.FrameLaws.{frame-for, address-back, control-back, data-back}
+use Rattle.frame.specs.Writing.{frameFor}
+use Rattle.item.specs.ContentLaws.{Range}
+use Rattle.item.specs.Decimal.{Decimal}
+use Rattle.item.specs.Reply.{controlCode, replyTo}
+use Rattle.item.specs.SameLaws.{same-equal, same-refl, equal-same}
+use Rattle.item.specs.Table.{itemOf}
+use Rattle.item.specs.declared.table.Item.{Item}
+use Rattle.item.specs.declared.table.Lookup.the-variants.{Listed}
+use Rattle.meter.specs.Energies.{Rows}
+use Rattle.meter.specs.Meter.{Sized, passwordAt, valueHeld}
+use Rattle.meter.specs.MeterLaws.{noted-value, value-length, value-back, value-other}
+use Rattle.meter.specs.Ranges.{InRanges}
+use Rattle.meter.specs.Request.{controlFor, addressed, identifierOf, itemAsked, levelOf, passwordOf, operatorOf, writtenValue}
+use Rattle.meter.specs.Answer.{checksOf, withItem, replyData, meterAfter, answeredWith, delivered, answered}
+use Rattle.meter.specs.CommandLaws.{AllHold, WriteHolds, write-holds, holds-write, same-control}
+use Rattle.meter.specs.AfterLaws.{only-registers-of, sized-after, ranges-after, address-kept}
+use Rattle.meter.specs.AnswerLaws.{data-bytes, Reaches, answered-normal, not-replied, reply-control, Answers, refuses, errs, carries, answers}
+use Rattle.meter.specs.declared.Meter.{Meter}
+use Rattle.meter.specs.declared.FrameAnswer.the-variants.{Replied}
+use Rattle.meter.specs.declared.request.Command.{Command}
+use Rattle.meter.specs.declared.request.Command.the-variants.{ReadData, ReadAddress, WriteData, WriteAddress, ChangePassword}
+
+-- Every check of document 01 that a write with these bytes meets, in its order: 16, 1, 2, 3, 4, and the table's row of 14.
+pub record EveryCheckHolds (bytes : List ℕ) (m : Meter) (forward reverse : Rows) (memory : List ℕ) : Type 0 where
+  pub ranges : InRanges m forward reverse
+  pub room : 212 ≤ length memory
+  pub one-frame : Frame bytes
+  pub control : controlOf bytes ≡ 0x14
+  pub address : addressOf bytes ≡ m .address
+  pub least : 12 ≤ length (dataOf bytes)
+  pub most : length (dataOf bytes) ≤ 50
+  pub item : Item
+  pub listed : itemOf (identifierOf (dataOf bytes)) ≡ Listed item
+  pub writable : item .writable ≡ true
+  pub key-on : m .key ≡ true
+  pub level : levelOf (dataOf bytes) ≤ 4
+  pub password : passwordOf (dataOf bytes) ≡ passwordAt (levelOf (dataOf bytes)) m
+  pub data-length : length (writtenValue (dataOf bytes)) ≡ item .length
+  pub decimal : Decimal (writtenValue (dataOf bytes))
+  pub range : Range (item .kind) (writtenValue (dataOf bytes))
+
+-- The write was accepted: it is answered 94, the item holds the written bytes and the operator code is that of the request, every other
+-- listed item holds what it held, key and passwords are as they were, and a read of the item gives the written bytes.
+pub record Accepted (bytes : List ℕ) (m : Meter) (forward reverse : Rows) (memory : List ℕ) (item : Item) : Type 0 where
+  pub after : Meter
+  pub answer : answered bytes m forward reverse memory
+      ≡ outcome (answeredWith after (Replied 12)) (over (frameFor (m .address) 0x94 []) memory)
+  pub held : valueHeld item after forward reverse ≡ writtenValue (dataOf bytes)
+  pub operator : after .operator ≡ operatorOf (dataOf bytes)
+  pub others : (identifier : ℕ) (other : Item) → itemOf identifier ≡ Listed other → (identifier ≡ identifierOf (dataOf bytes) → ⊥)
+      → valueHeld other after forward reverse ≡ valueHeld other m forward reverse
+  pub address : after .address ≡ m .address
+  pub key : after .key ≡ m .key
+  pub passwords : after .passwords ≡ m .passwords
+  pub ranges : InRanges after forward reverse
+  pub read-back : (again : List ℕ) → 212 ≤ length again
+      → answered (frameFor (m .address) 0x11 (take 4 (dataOf bytes))) after forward reverse again
+      ≡ outcome (answeredWith after (Replied (16 + item .length)))
+      (over (frameFor (m .address) 0x91 (take 4 (dataOf bytes) ++ writtenValue (dataOf bytes))) again)
+
+-- No write was accepted: no reply is 94, registers and operator code are as they were, and after a frame with control 14 so is all else.
+pub record NotAccepted (bytes : List ℕ) (m : Meter) (forward reverse : Rows) (memory : List ℕ) : Type 0 where
+  pub no-94 : (n : ℕ) → answered bytes m forward reverse memory .answer .answer ≡ Replied n
+      → controlOf (answered bytes m forward reverse memory .memory) ≡ 0x94 → ⊥
+  pub registers : answered bytes m forward reverse memory .answer .meter .registers ≡ m .registers
+  pub operator : answered bytes m forward reverse memory .answer .meter .operator ≡ m .operator
+  pub same : controlOf bytes ≡ 0x14 → answered bytes m forward reverse memory .answer .meter ≡ m
+
+-- The first of bytes are bytes.
+bytes-take : (n : ℕ) (xs : List ℕ) → Bytes xs → Bytes (take n xs)
+bytes-take zero xs h = tt
+bytes-take (suc n) [] h = tt
+bytes-take (suc n) (x ∷ xs) h = (h .0, bytes-take n xs (h .1))
+
+-- The identifier stands in the first four bytes.
+identifier-take : (meant : List ℕ) → identifierOf (take 4 meant) ≡ identifierOf meant
+unfolding identifierOf
+identifier-take meant = rw (at 0 (omega arith), at 1 (omega arith), at 2 (omega arith), at 3 (omega arith))
+  where
+    at : (i : ℕ) → i < 4 → getD (take 4 meant) i 0 ≡ getD meant i 0
+    at i h = getD-take 4 meant i 0 h
+
+-- A read of a listed item by the meter's own address gives its value.
+read-value : (identifier own value : List ℕ) (item : Item) (m : Meter) (forward reverse : Rows) (memory : List ℕ) → Bytes identifier
+    → length identifier ≡ 4 → itemOf (identifierOf identifier) ≡ Listed item → Sized m → InRanges m forward reverse → 212 ≤ length memory
+    → m .address ≡ own → valueHeld item m forward reverse ≡ value
+    → answered (frameFor own 0x11 identifier) m forward reverse memory
+    ≡ outcome (answeredWith m (Replied (16 + item .length))) (over (frameFor own 0x91 (identifier ++ value)) memory)
+unfolding delivered replyTo controlCode checksOf itemAsked addressed replyData meterAfter
+read-value identifier own value item m forward reverse memory bytes four listed sized ranges room from held =
+    let request : List ℕ = frameFor (m .address) 0x11 identifier in
+    let address : addressOf request ≡ m .address = rw append-nil at (address-back (m .address) 0x11 identifier [] (sized .address)) in
+    let asked : dataOf request ≡ identifier = rw append-nil at (data-back (m .address) 0x11 identifier [] (sized .address) bytes) in
+    let size : 12 + length (identifier ++ valueHeld item m forward reverse) ≡ 16 + item .length =
+    rw (length-append, four, value-length (identifierOf identifier) item listed m sized forward reverse) (omega arith) in
+    rw (← from, ← held)
+    (answered-normal request m forward reverse memory ReadData
+    (record {
+      ranges = ranges;
+      room = room;
+      one-frame = frame-for (m .address) 0x11 identifier (sized .address) (omega arith);
+      control = rw append-nil at (control-back (m .address) 0x11 identifier [] (sized .address));
+      for-meter = rw (address, same-refl (m .address));
+    })
+    (rw asked (eq-eqb _ _ four), (rw (asked, listed), tt))
+    ∙ rw (asked, listed, take-all 4 identifier (omega arith), size))
+
+-- Every check of a write, told apart: those before the row of 14, and that row; and put together again.
+module _ {bytes : List ℕ} {m : Meter} {forward reverse : Rows} {memory : List ℕ} where
+  reaches : EveryCheckHolds bytes m forward reverse memory → Reaches bytes m forward reverse memory WriteData
+  unfolding addressed
+  reaches w = search (equal-same (addressOf bytes) (m .address) (w .address))
+
+  row-holds : EveryCheckHolds bytes m forward reverse memory → WriteHolds (dataOf bytes) m
+  row-holds w = search
+
+  every-check : Reaches bytes m forward reverse memory WriteData → WriteHolds (dataOf bytes) m → EveryCheckHolds bytes m forward reverse memory
+  unfolding addressed
+  every-check r w = search (same-equal (addressOf bytes) (m .address) (r .for-meter))
+
+pub accepted-write : (bytes : List ℕ) (m : Meter) (forward reverse : Rows) (memory : List ℕ) → Sized m
+    → (w : EveryCheckHolds bytes m forward reverse memory) → Accepted bytes m forward reverse memory (w .item)
+unfolding delivered replyTo controlCode replyData meterAfter itemAsked
+accepted-write bytes m forward reverse memory sized w =
+    record {
+      after = after;
+      answer =
+          answered-normal bytes m forward reverse memory WriteData (reaches w) all
+          ∙ ap (λ (own : List ℕ). outcome (answeredWith after (Replied 12)) (over (frameFor own 0x94 []) memory)) kept;
+      held = held;
+      operator = refl;
+      others =
+          λ identifier other h differ. noted-value other (operatorOf meant) written forward reverse
+          ∙ rw (w .listed)
+          (value-other (identifierOf meant) (w .item) (w .listed) m sized (writtenValue meant) (w .data-length) (w .writable) identifier other h differ
+          forward reverse);
+      address = kept;
+      key = rw (only-registers-of (itemAsked meant) (writtenValue meant) m);
+      passwords = rw (only-registers-of (itemAsked meant) (writtenValue meant) m);
+      ranges = ranges-after WriteData meant m forward reverse (w .ranges) all;
+      read-back =
+          λ again room. read-value (take 4 meant) (m .address) (writtenValue meant) (w .item) after forward reverse again
+          (bytes-take 4 meant (data-bytes bytes)) (length-take-le 4 meant (omega (arith, w .least))) (rw (identifier-take meant) (w .listed))
+          (sized-after WriteData meant m sized all) (ranges-after WriteData meant m forward reverse (w .ranges) all) room kept held;
+    }
+  where
+    meant : List ℕ
+    meant = dataOf bytes
+
+    all : AllHold (checksOf WriteData meant m)
+    all = holds-write meant m (row-holds w)
+
+    after : Meter
+    after = meterAfter WriteData meant m
+
+    written : Meter
+    written = withItem (itemAsked meant) (writtenValue meant) m
+
+    kept : after .address ≡ m .address
+    kept = address-kept WriteData meant m (λ e. omega arith)
+
+    held : valueHeld (w .item) after forward reverse ≡ writtenValue meant
+    held =
+        noted-value (w .item) (operatorOf meant) written forward reverse
+        ∙ rw (w .listed) (value-back (identifierOf meant) (w .item) (w .listed) m sized (writtenValue meant) (w .data-length) (w .writable) forward reverse)
+
+-- Only the normal reply to 14 is 94.
+control-below : (command : Command) → controlFor command < 32
+control-below ReadData = omega arith
+control-below ReadAddress = omega arith
+control-below WriteData = omega arith
+control-below WriteAddress = omega arith
+control-below ChangePassword = omega arith
+
+reply-94 : (command : Command) (abnormal : Bool) → replyTo (controlFor command) abnormal ≡ 0x94 → (controlFor command ≡ 0x14) × (abnormal ≡ false)
+unfolding replyTo controlCode
+reply-94 command true e = absurd (omega (arith, control-below command))
+reply-94 command false e = (omega (arith, control-below command), refl)
+
+-- Another command changes neither registers nor the operator code.
+unwritten : (command : Command) (meant : List ℕ) (m : Meter) → (controlFor command ≡ 0x14 → ⊥)
+    → (meterAfter command meant m .registers ≡ m .registers) × (meterAfter command meant m .operator ≡ m .operator)
+unfolding meterAfter
+unwritten ReadData meant m other = (refl, refl)
+unwritten ReadAddress meant m other = (refl, refl)
+unwritten WriteData meant m other = absurd (other refl)
+unwritten WriteAddress meant m other = (refl, refl)
+unwritten ChangePassword meant m other = (refl, refl)
+
+pub no-write : (bytes : List ℕ) (m : Meter) (forward reverse : Rows) (memory : List ℕ) → Sized m
+    → (EveryCheckHolds bytes m forward reverse memory → ⊥) → NotAccepted bytes m forward reverse memory
+unfolding delivered
+no-write bytes m forward reverse memory sized h = go (answers bytes m forward reverse memory)
+  where
+    -- The meter is as it was, and there is no 94.
+    unmoved : answered bytes m forward reverse memory .answer .meter ≡ m
+        → ((n : ℕ) → answered bytes m forward reverse memory .answer .answer ≡ Replied n
+        → controlOf (answered bytes m forward reverse memory .memory) ≡ 0x94 → ⊥)
+        → NotAccepted bytes m forward reverse memory
+    unmoved e none =
+        record {
+          no-94 = none;
+          registers = ap (λ (a : Meter). a .registers) e;
+          operator = ap (λ (a : Meter). a .operator) e;
+          same = λ c. e;
+        }
+
+    go : Answers bytes m forward reverse memory → NotAccepted bytes m forward reverse memory
+    go (refuses k small e) = unmoved (rw e) (λ n said c. not-replied (rw e at said))
+    go (errs command b w loud e) =
+        unmoved (rw e)
+        (λ n said c. true≢false (reply-94 command true (sym (reply-control bytes m forward reverse memory _ (b ∷ []) m (sized .address) e) ∙ c) .1))
+    go (carries command w all e) =
+        record {
+          no-94 =
+              λ n said c. other
+              (reply-94 command false
+              (sym (reply-control bytes m forward reverse memory _ _ after (sized-after command (dataOf bytes) m sized all .address) e) ∙ c) .0);
+          registers = rw e (unwritten command (dataOf bytes) m other .0);
+          operator = rw e (unwritten command (dataOf bytes) m other .1);
+          same = λ c. absurd (other (sym (w .control) ∙ c));
+        }
+      where
+        after : Meter
+        after = meterAfter command (dataOf bytes) m
+
+        other : controlFor command ≡ 0x14 → ⊥
+        other c =
+            let same : command ≡ WriteData = same-control command WriteData c in
+            h (every-check (rw same at w) (write-holds (dataOf bytes) m (rw same at all)))
