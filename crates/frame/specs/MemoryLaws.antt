@@ -6,7 +6,7 @@ use native.Mathlib.Nat.{le-of-suc-le-suc, not-suc-le-zero}
 use native.Mathlib.Numerals.{add-one}
 use native.Mathlib.Omega.{arith}
 use lib.ListN.{length, take, drop, getD, set, length-append, length-map, length-set, length-drop, take-append-drop, drop-of-length-le}
-use lib.Seq.{sets, take-all, take-suc, take-at, drop-at, drop-length, drop-drop, append-snoc, length-take-le}
+use lib.Seq.{sets, take-all, take-length, take-suc, take-at, drop-at, drop-length, drop-drop, append-snoc, length-take-le}
 use mathlib.Core.Bool.{Bool, true, false}
 use Rattle.frame.specs.Memory.{over, pick}
 
@@ -67,6 +67,10 @@ lent-over n xs ys m e h =
     let whole : take (length m - n) (drop n m) ≡ drop n m = take-all (length m - n) (drop n m) (omega arith) in
     let none : drop (length m - n) (drop n m) ≡ [] = drop-of-length-le (drop n m) {i = length m - n} (omega arith) in
     rw (take-at xs (drop (length xs) m) n e, same, rest, whole, none, append-nil, length-append, e, ← drop-drop, append-assoc)
+
+-- What a copy leaves is what is written over the front.
+pub copied : (s m : List ℕ) → take (length s) s ++ drop (length s) m ≡ over s m
+copied s m = rw take-length
 
 -- `zs` is `ys`, over whose front the first `i` bytes of `xs` are written, each through `f`.
 pub record Mapping (f : ℕ → ℕ) (xs ys : List ℕ) (i : ℕ) (zs : List ℕ) : Type 0 where

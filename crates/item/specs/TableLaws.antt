@@ -21,32 +21,6 @@ pub record Within (direction rate rates row rows : ℕ) : Type 0 where
   pub columns : rate + rates ≤ 5
   pub settlements : row + rows ≤ 13
 
--- The length in bytes of each kind.
-abbrev pub lengthFor : Kind → ℕ
-lengthFor (Energy direction rate rates row rows) = 4 * rates * rows
-lengthFor Date = 4
-lengthFor Time = 3
-lengthFor DemandPeriod = 1
-lengthFor Slip = 1
-lengthFor Address = 6
-lengthFor MeterNumber = 6
-lengthFor FirstSettlementDay = 2
-lengthFor SecondSettlementDay = 2
-lengthFor ThirdSettlementDay = 2
-
--- What holds of a listed item of each kind besides its length.
-abbrev pub Proper : Kind → Item → Type 0
-Proper (Energy direction rate rates row rows) item = Within direction rate rates row rows × (item .writable ≡ false)
-Proper Address item = item .writable ≡ false
-Proper Date item = item .writable ≡ true
-Proper Time item = item .writable ≡ true
-Proper DemandPeriod item = item .writable ≡ true
-Proper Slip item = item .writable ≡ true
-Proper MeterNumber item = item .writable ≡ true
-Proper FirstSettlementDay item = item .writable ≡ true
-Proper SecondSettlementDay item = item .writable ≡ true
-Proper ThirdSettlementDay item = item .writable ≡ true
-
 -- What holds of every row.
 abbrev pub InRows : (ℕ → Item → Type 0) → List Row → Type 0
 InRows P [] = Unit
@@ -98,24 +72,6 @@ module _ {P : ℕ → Item → Type 0} (rule : Rule P) (identifier : ℕ) where
 
   pub listed-rule : (item : Item) → itemOf identifier ≡ Listed item → P identifier item
   listed-rule item h = rw h at item-rule
-
-pub listed-length : (identifier : ℕ) (item : Item) → itemOf identifier ≡ Listed item → item .length ≡ lengthFor (item .kind)
-unfolding otherRows
-listed-length =
-    listed-rule {P = λ identifier item. item .length ≡ lengthFor (item .kind)}
-    (record {
-      of-readings = λ identifier direction rate rates row rows w b. refl;
-      of-rows = omega arith;
-    })
-
-pub listed-proper : (identifier : ℕ) (item : Item) → itemOf identifier ≡ Listed item → Proper (item .kind) item
-unfolding otherRows
-listed-proper =
-    listed-rule {P = λ identifier item. Proper (item .kind) item}
-    (record {
-      of-readings = λ identifier direction rate rates row rows w b. (w, refl);
-      of-rows = search;
-    })
 
 -- No listed item has more than 52 bytes.
 pub listed-most : (identifier : ℕ) (item : Item) → itemOf identifier ≡ Listed item → item .length ≤ 52

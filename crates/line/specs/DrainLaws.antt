@@ -7,7 +7,7 @@ use native.Mathlib.Omega.{arith}
 use native.Mathlib.Nat.{le-refl, sub-zero, zero-sub, suc-sub-suc, not-suc-le-zero, le-of-suc-le-suc, add-zero, add-suc, suc-add}
 use native.Mathlib.Numerals.{add-one, sub-one}
 use lib.ListN.{length, take, drop, length-append, length-drop, drop-of-length-le}
-use lib.Seq.{take-nil, take-all, drop-drop, take-length, length-take-le}
+use lib.Seq.{take-nil, take-all, drop-drop, length-take-le}
 use Rattle.frame.specs.Memory.{over}
 use Rattle.frame.specs.MemoryLaws.{over-length, lent-over}
 use Rattle.frame.specs.Recognition.{recognised}
@@ -156,10 +156,6 @@ draining-start line start closed m h =
 -- The rest of a list from a place on, as a part of it with that start is read.
 pub rest-part : (a : ℕ) (l : List ℕ) → take (length l - a) (drop a l) ≡ drop a l
 rest-part a l = take-all (length l - a) (drop a l) (rw length-drop (le-refl (length l - a)))
-
--- What a copy leaves is what is written over the front.
-pub copied : (s m : List ℕ) → take (length s) s ++ drop (length s) m ≡ over s m
-copied s m = rw take-length
 
 -- A part between two places, as the front of what follows the first or as what follows the first in a front.
 pub part-of-front : (a n : ℕ) (l : List ℕ) → take (n - a) (drop a l) ≡ drop a (take n l)

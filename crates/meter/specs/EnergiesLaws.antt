@@ -1,14 +1,13 @@
 -- Laws of the readings of one direction: their test, a column and columns one more at the end, a pulse and a settlement.
-use Prim.Native.Nat.{ℕ, zero, suc, _+_}
+use Prim.Native.Nat.{ℕ, _+_}
 use mathlib.Core.Path.{_≡_, refl}
-use mathlib.Core.List.{[], _∷_, _++_, append-nil, append-assoc}
+use mathlib.Core.List.{[], _∷_, _++_}
 use mathlib.Core.Bool.{true}
-use native.Mathlib.Omega.{arith}
 use lib.ListN.{getD, set, take}
 use Rattle.meter.specs.Reading.{zeroReading, readingInRange, readingBytes}
 use Rattle.meter.specs.Energies.{Rows, rowInRange, rowsInRange, readingAt, columnBytes, columnsBytes, pulsed, pulsedRow, settled}
 use Rattle.meter.specs.TestLaws.{TestOfAll, test-at}
-use Rattle.meter.specs.JoinLaws.{Joined}
+use Rattle.meter.specs.JoinLaws.{Joined, joined-from}
 
 -- The test of a row is that of each of its readings, and the test of rows that of each row.
 pub row-test : TestOfAll readingInRange rowInRange
@@ -26,27 +25,15 @@ reading-in-range rows h row rate =
     test-at row-test zeroReading refl (getD rows row []) (test-at rows-test [] refl rows h row) rate
 
 -- A column is its readings end to end, and columns are end to end.
-pub column-joined : (rows : Rows) (rate row : ℕ) → Joined (λ i. readingBytes (readingAt rows (row + i) rate)) (λ i. columnBytes rows rate row i)
+pub column-joined : (rows : Rows) (rate row : ℕ) → Joined (λ i. readingBytes (readingAt rows (row + i) rate)) (columnBytes rows rate row)
 unfolding columnBytes
-column-joined rows rate row = record { none = refl; more = more row }
-  where
-    more : (row n : ℕ) → columnBytes rows rate row (n + 1) ≡ columnBytes rows rate row n ++ readingBytes (readingAt rows (row + n) rate)
-    more row zero = let same : row + 0 ≡ row = omega arith in rw (same, append-nil)
-    more row (suc n) =
-        let next : row + 1 + n ≡ row + suc n = omega arith in
-        let one : suc n + 1 ≡ suc (n + 1) = omega arith in
-        rw (one, more (row + 1) n, next, append-assoc)
+column-joined rows rate row =
+    joined-from (λ r. readingBytes (readingAt rows r rate)) (columnBytes rows rate) (λ r. refl) (λ r n. refl) row
 
 pub columns-joined : (rows : Rows) (rate row span : ℕ) → Joined (λ i. columnBytes rows (rate + i) row span) (λ i. columnsBytes rows rate i row span)
 unfolding columnsBytes
-columns-joined rows rate row span = record { none = refl; more = more rate }
-  where
-    more : (rate n : ℕ) → columnsBytes rows rate (n + 1) row span ≡ columnsBytes rows rate n row span ++ columnBytes rows (rate + n) row span
-    more rate zero = let same : rate + 0 ≡ rate = omega arith in rw (same, append-nil)
-    more rate (suc n) =
-        let next : rate + 1 + n ≡ rate + suc n = omega arith in
-        let one : suc n + 1 ≡ suc (n + 1) = omega arith in
-        rw (one, more (rate + 1) n, next, append-assoc)
+columns-joined rows rate row span =
+    joined-from (λ r. columnBytes rows r row span) (λ r i. columnsBytes rows r i row span) (λ r. refl) (λ r n. refl) rate
 
 -- A pulse sets row 0.
 pub pulsed-set : (rows : Rows) (amount rate : ℕ) → set rows 0 (pulsedRow (getD rows 0 []) amount rate) ≡ pulsed rows amount rate

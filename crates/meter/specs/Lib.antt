@@ -7,7 +7,6 @@ pub mod TestLaws
 pub mod MoveLaws
 pub mod JoinLaws
 pub mod EnergiesLaws
-pub mod ValueLaws
 pub mod Host
 pub mod Request
 pub mod Answer

@@ -11,7 +11,7 @@ use borrow.Author.Tests.{leb-true, leb-false}
 use Rattle.item.specs.Decimal.{Decimal}
 use Rattle.item.specs.DecimalLaws.{packed-length, decimal-take, decimal-drop, decimal-join}
 use Rattle.item.specs.Table.{itemOf, otherRows}
-use Rattle.item.specs.TableLaws.{listed-rule, writable-once}
+use Rattle.item.specs.TableLaws.{Within, listed-rule, writable-once}
 use Rattle.item.specs.declared.table.Kind.{Kind}
 use Rattle.item.specs.declared.table.Kind.the-variants.{Date, Time, DemandPeriod, Slip, Address, MeterNumber, FirstSettlementDay, SecondSettlementDay, ThirdSettlementDay}
 use Rattle.item.specs.declared.table.Item.{Item}
@@ -115,9 +115,16 @@ owners =
     replicate 4 Date ++ (replicate 3 Time ++ (DemandPeriod ∷ Slip ∷ (replicate 6 MeterNumber
     ++ (replicate 2 FirstSettlementDay ++ (replicate 2 SecondSettlementDay ++ replicate 2 ThirdSettlementDay)))))
 
+-- So many bytes lie at a place.
+abbrev pub Lies : ℕ → Place → Type 0
+Lies n (Readings direction rate rates row rows) = Within direction rate rates row rows × (n ≡ 4 * rates * rows)
+Lies n OwnAddress = n ≡ 6
+Lies n (Register at) = at + n ≤ 21
+
 -- An item at its place: a register may be written and lies within the 21 bytes, all of which there belong to its kind.
 abbrev Placed : Item → Place → Type 0
-Placed item (Readings direction rate rates row rows) = (item .writable ≡ false) × (item .length ≡ 4 * rates * rows)
+Placed item (Readings direction rate rates row rows) =
+    (item .writable ≡ false) × (item .length ≡ 4 * rates * rows) × Within direction rate rates row rows
 Placed item OwnAddress = (item .writable ≡ false) × (item .length ≡ 6)
 Placed item (Register at) =
     (item .writable ≡ true)
@@ -130,7 +137,7 @@ unfolding otherRows placeOf owners
 placed =
     listed-rule {P = λ identifier item. Placed item (placeOf (item .kind))}
     (record {
-      of-readings = λ identifier direction rate rates row rows w b. (refl, refl);
+      of-readings = λ identifier direction rate rates row rows w b. (refl, refl, w);
       of-rows = search arith depth 12;
     })
 
@@ -158,9 +165,14 @@ registers-apart item another at other p q differ = go (leb (other + another .len
         absurd (differ (cc (owner item at (other - at) p left, owner another other (at - other) q right)))
 
 module _ (identifier : ℕ) (item : Item) (listed : itemOf identifier ≡ Listed item) where
-  -- A register lies within the 21 bytes.
-  pub register-fits : (at : ℕ) → placeOf (item .kind) ≡ Register at → at + item .length ≤ 21
-  register-fits at h = let p : Placed item (Register at) = rw h at (placed identifier item listed) in p .2
+  -- A listed item's bytes lie at its place.
+  pub listed-lies : Lies (item .length) (placeOf (item .kind))
+  listed-lies = go (placeOf (item .kind)) (placed identifier item listed)
+    where
+      go : (place : Place) → Placed item place → Lies (item .length) place
+      go (Readings direction rate rates row rows) p = (p .2, p .1)
+      go OwnAddress p = p .1
+      go (Register at) p = p .2
 
   -- What may be written is a register.
   pub writable-register : item .writable ≡ true → (at : ℕ) × (placeOf (item .kind) ≡ Register at)

@@ -7,7 +7,7 @@ use native.Mathlib.Omega.{arith}
 use lib.ListN.{length, take, drop, getD, set}
 
 module _ {A : Type 0} where
-  -- The first `n` elements moved down by one, but for those up to place `i`.
+  -- Of the first `n` elements those from place `i` on stand one place further down; up to that place all is as it was.
   abbrev moved : ℕ → ℕ → List A → List A
   moved i n xs = take (suc i) xs ++ drop i (take n xs)
 
@@ -24,7 +24,7 @@ module _ {A : Type 0} where
   moved-one zero (suc n) (x ∷ y ∷ xs) d below long = refl
   moved-one (suc k) (suc n) (x ∷ y ∷ xs) d below long = ap {B = List A} (_∷_ x) (moved-one k n (y ∷ xs) d (omega arith) (omega arith))
 
-  -- `ys` is `xs`, a list of one more than `n`, with the elements below place `i` moved.
+  -- `ys` is `xs`, a list of one more than `n`, with the elements from place `i` on moved.
   pub record Moving (n : ℕ) (xs : List A) (i : ℕ) (ys : List A) : Type 0 where
     pub size : length xs ≡ suc n
     pub passed : i ≤ n

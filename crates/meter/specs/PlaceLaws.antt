@@ -7,7 +7,7 @@ use Rattle.item.specs.Table.{itemOf}
 use Rattle.item.specs.declared.table.Item.{Item}
 use Rattle.item.specs.declared.table.Lookup.the-variants.{Listed}
 use Rattle.meter.specs.Meter.{placeOf}
-use Rattle.meter.specs.MeterLaws.{register-fits, writable-register}
+use Rattle.meter.specs.MeterLaws.{Lies, listed-lies, writable-register}
 use Rattle.meter.specs.Checks.{registerAt, targetOf}
 use Rattle.meter.specs.declared.place.Place.the-variants as place
 use Rattle.meter.specs.declared.place.Target.{Target}
@@ -25,5 +25,6 @@ target-writable identifier item h = go (item .writable) refl
     go : (t : Bool) → item .writable ≡ t → Writes item (pick t (registerAt (placeOf (item .kind))) target.ReadOnly)
     go true w =
         let r = writable-register identifier item h w in
-        rw (r .1) (w, r .1, register-fits identifier item h (r .0) (r .1))
+        let fits : Lies (item .length) (place.Register (r .0)) = rw (r .1) at (listed-lies identifier item h) in
+        rw (r .1) (w, r .1, fits)
     go false w = w

@@ -23,16 +23,16 @@ ghost use mathlib.Core.Bool.{true};
 ghost use Prim.Native.Nat.{_≤_};
 ghost use lib.ListN.{length};
 ghost use Rattle.frame.specs.Memory.{over};
-ghost use Rattle.item.specs.TableLaws.{Proper, lengthFor};
 ghost use Rattle.meter.specs.Energies.{rowsInRange};
-ghost use Rattle.meter.specs.Meter.{valueHeld};
+ghost use Rattle.meter.specs.Meter.{placeOf, valueHeld};
+ghost use Rattle.meter.specs.MeterLaws.{Lies};
 ghost use Rattle.meter.specs.Answer.{carriedOut};
 ghost use Rattle.meter.specs.Treated.{Means};
 
 // Writes the value that a meter holds for an item to the front of the output buffer.
 fn write_value(meter: Meter, forward: Rows, reverse: Rows, item: Item, out: &mut [u8])
     requires { ⌜ (rowsInRange forward ≡ true) × (rowsInRange reverse ≡ true) ⌝ }
-    requires { ⌜ Proper (item .kind) item × (item .length ≡ lengthFor (item .kind)) ⌝ }
+    requires { ⌜ Lies (item .length) (placeOf (item .kind)) ⌝ }
     requires { ⌜ item .length ≤ length (now out) ⌝ }
     ensures { λ _. ⌜ now (out .exit) ≡ over (valueHeld item meter forward reverse) (now (out .entry)) ⌝ }
 {

@@ -9,10 +9,11 @@ use native.Mathlib.Omega.{arith}
 use borrow.Author.Needs.{needs}
 use borrow.Author.Tests.{not-true, not-false}
 use lib.ListN.{length, take, drop, length-take, length-drop}
+use Rattle.frame.specs.MemoryLaws.{copied}
 use Rattle.frame.specs.Memory.{over}
 use Rattle.frame.specs.Recognition.{recognised}
 use Rattle.frame.specs.declared.Recognised.the-variants.{Whole}
-use Rattle.line.specs.DrainLaws.{rest-part, copied, Draining, draining-start, draining-next, draining-whole, draining-end, draining-open, draining-closed, whole-fits, whole-least}
+use Rattle.line.specs.DrainLaws.{rest-part, Draining, draining-start, draining-next, draining-whole, draining-end, draining-open, draining-closed, whole-fits, whole-least}
 use Rattle.line.proofs.drain.drain.Statement.{statement}
 use Rattle.line.proofs.drain.drain.Tie as tie
 

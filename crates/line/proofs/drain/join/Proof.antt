@@ -7,8 +7,7 @@ use borrow.Author.Needs.{needs}
 use lib.ListN.{take, set, length-take}
 use lib.Seq.{length-take-le}
 use Rattle.frame.specs.Memory.{over}
-use Rattle.frame.specs.MemoryLaws.{over-next}
-use Rattle.line.specs.DrainLaws.{copied}
+use Rattle.frame.specs.MemoryLaws.{over-next, copied}
 use Rattle.line.proofs.drain.join.Statement.{statement}
 use Rattle.line.proofs.drain.join.Tie as tie
 

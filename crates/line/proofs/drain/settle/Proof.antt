@@ -7,8 +7,8 @@ use native.Mathlib.Omega.{arith}
 use borrow.Author.Needs.{needs}
 use lib.ListN.{length, take, drop, replicate, length-take, length-append, length-drop}
 use lib.Seq.{length-take-le, take-at}
-use Rattle.line.specs.DrainLaws.{copied, drained-settles}
-use Rattle.frame.specs.MemoryLaws.{over-length}
+use Rattle.line.specs.DrainLaws.{drained-settles}
+use Rattle.frame.specs.MemoryLaws.{over-length, copied}
 use Rattle.line.proofs.drain.settle.Statement.{statement}
 use Rattle.line.proofs.drain.settle.Tie as tie
 

@@ -1,19 +1,21 @@
 -- The check is passed or answers; the reply's first six bytes are the address.
+use Prim.Native.Nat.{ℕ}
 use mathlib.Core.Path.{_≡_, ap, sym, _∙_}
 use mathlib.Core.List.{List}
 use native.Mathlib.Omega.{arith}
 use borrow.Author.Needs.{needs}
 use lib.ListN.{length, take, drop, replicate}
 use lib.Seq.{take-at}
+use Rattle.frame.specs.MemoryLaws.{copied}
+use Rattle.meter.specs.Meter.{Sized}
 use Rattle.meter.specs.Answer.{checksOf, replyData, meterAfter}
-use Rattle.meter.specs.JoinLaws.{copied}
 use Rattle.meter.specs.ChecksLaws.{check-true, check-false, all-left, check-holds, check-fails, no-check-left}
 use Rattle.meter.proofs.read.read_address.Statement.{statement}
 use Rattle.meter.proofs.read.read_address.Tie as tie
 
--- an address has six bytes
-six : (s : tie.Start) → length (s .args .meter .address) ≡ 6
-six s = search needs
+-- the array fields' lengths
+sized : (s : tie.Start) → Sized (s .args .meter)
+sized s = search needs
 
 has-length-requires : tie.Need-has-length-requires
 has-length-requires c κs = search needs
@@ -40,7 +42,7 @@ slice-aggregate-copy-2 : tie.Need-slice-aggregate-copy-2
 slice-aggregate-copy-2 c = search needs
 
 copy-requires : tie.Need-copy-requires
-copy-requires c κs = omega (arith, six (c .before .before .before .before .before .before .before))
+copy-requires c κs = omega (arith, sized (c .before .before .before .before .before .before .before) .address)
 
 reply-requires : tie.Need-reply-requires
 reply-requires c κs = search needs
@@ -51,9 +53,9 @@ returns-2 c =
     let told = c .before .before .before .before .before .before in
     let tested = told .before .before in
     let s = tested .before .before in
-    let address : List _ = s .args .meter .address in
+    let address : List ℕ = s .args .meter .address in
     let front : take 6 (c .before .before .copy .last .1 .0) ≡ address =
-    ap (take 6) (c .before .before .copy .ensures .1 ∙ copied address (replicate 200 0)) ∙ take-at address (drop (length address) (replicate 200 0)) 6 (six s) in
+    ap (take 6) (c .before .before .copy .ensures .1 ∙ copied address (replicate 200 0)) ∙ take-at address (drop (length address) (replicate 200 0)) 6 (sized s .address) in
     no-check-left (check-holds all-left (check-true _ (sym (tested .has-length .ensures) ∙ told .enum-told .given .1)))
     (rw front at (c .reply3 .ensures))
 

@@ -11,17 +11,17 @@ use lib.ListN.{length, take, replicate, length-take, length-drop}
 use lib.Seq.{take-all}
 use lib.Dec.{eqb}
 use Rattle.frame.specs.Memory.{over}
-use Rattle.frame.specs.MemoryLaws.{over-length}
+use Rattle.frame.specs.MemoryLaws.{copied, over-length}
 use Rattle.item.specs.Table.{itemOf}
-use Rattle.item.specs.TableLaws.{listed-proper, listed-length, listed-most}
+use Rattle.item.specs.TableLaws.{listed-most}
 use Rattle.item.specs.declared.table.Item.{Item}
 use Rattle.item.specs.declared.table.Lookup.{Lookup}
 use Rattle.item.specs.declared.table.Lookup.the-variants.{Listed}
 use Rattle.meter.specs.Meter.{Sized, valueHeld}
 use Rattle.meter.specs.Request.{identifierOf, itemAsked}
 use Rattle.meter.specs.Answer.{isListed, checksOf, replyData, meterAfter}
-use Rattle.meter.specs.JoinLaws.{copied, front-of-two}
-use Rattle.meter.specs.MeterLaws.{value-length}
+use Rattle.meter.specs.JoinLaws.{front-of-two}
+use Rattle.meter.specs.MeterLaws.{listed-lies, value-length}
 use Rattle.meter.specs.ChecksLaws.{read-parsed, read-wrong, all-left, check-holds, check-fails, no-check-left}
 use Rattle.meter.proofs.read.read_data.Statement.{statement}
 use Rattle.meter.proofs.read.read_data.Tie as tie
@@ -126,7 +126,7 @@ write-value-requires c κs =
     let i = c .before .before .before .before .before in
     let room : length (c .before .before .copy .last .1 .0) ≡ 200 =
     ap length (copied-data (c .before .before)) ∙ over-length (at-start i .args .meant .now) (replicate 200 0) (omega (arith, four i)) in
-    (at-start i .pre, ((listed-proper _ _ (listed i), listed-length _ _ (listed i)), simp (length-take, length-drop) (omega (arith, most i, room))))
+    (at-start i .pre, (listed-lies _ _ (listed i), simp (length-take, length-drop) (omega (arith, most i, room))))
 
 add-reply : tie.Need-add-reply
 add-reply c = omega (arith, most (c .before .before .before .before .before .before .before .before))

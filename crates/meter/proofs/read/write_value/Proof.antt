@@ -1,4 +1,4 @@
--- Each arm writes what `heldAt` says of its place; a proper item's bytes lie there.
+-- Each arm writes what `heldAt` says of its place, where the item's bytes lie.
 use Prim.Native.Nat.{ℕ, _+_, _*_, _-_, _≤_}
 use mathlib.Core.Path.{_≡_, ap, sym, _∙_}
 use mathlib.Core.List.{List}
@@ -8,21 +8,18 @@ use borrow.Author.Needs.{needs}
 use borrow.Author.Tests.{eq-eqb, ne-eqb}
 use lib.ListN.{length, take, drop}
 use lib.Dec.{eqb}
+use Rattle.frame.specs.MemoryLaws.{copied}
 use Rattle.frame.specs.Memory.{over, pick}
 use Rattle.meter.specs.Energies.{columnsBytes}
-use Rattle.meter.specs.Meter.{placeOf, heldAt, valueHeld}
-use Rattle.meter.specs.JoinLaws.{copied}
-use Rattle.meter.specs.ValueLaws.{Lies, proper-lies}
+use Rattle.meter.specs.Meter.{Sized, placeOf, heldAt, valueHeld}
+use Rattle.meter.specs.MeterLaws.{Lies}
 use Rattle.meter.specs.declared.place.Place.{Place}
 use Rattle.meter.proofs.read.write_value.Statement.{statement}
 use Rattle.meter.proofs.read.write_value.Tie as tie
 
 -- the array fields' lengths
-six : (s : tie.Start) → length (s .args .meter .address) ≡ 6
-six s = search needs
-
-registers : (s : tie.Start) → length (s .args .meter .registers) ≡ 21
-registers s = search needs
+sized : (s : tie.Start) → Sized (s .args .meter)
+sized s = search needs
 
 module _ (c : tie.After-place-of) (place : Place) (e : c .place-of .result ≡ place) where
   -- the place that was found
@@ -32,8 +29,7 @@ module _ (c : tie.After-place-of) (place : Place) (e : c .place-of .result ≡ p
   -- the item's bytes lie there
   lies : Lies (c .before .before .args .item .length) place
   lies =
-      let s = c .before .before in
-      rw (s .pre .1 .0 .1) (rw found at (proper-lies (s .args .item .kind) (s .args .item) (s .pre .1 .0 .0)))
+      rw found at (c .before .before .pre .1 .0)
 
   -- the value is what the place holds
   held : let a = c .before .before .args in heldAt place (a .item .length) (a .meter) (a .forward) (a .reverse) ≡ valueHeld (a .item) (a .meter) (a .forward) (a .reverse)
@@ -95,7 +91,7 @@ copy-requires : tie.Need-copy-requires
 copy-requires c κs =
     let told = c .before .before .before in
     let s = told .before .before .before .before in
-    omega (arith, six s, lies (told .before .before) _ (told .enum-told .given .1), s .pre .1 .1)
+    omega (arith, sized s .address, lies (told .before .before) _ (told .enum-told .given .1), s .pre .1 .1)
 
 enum-known-place-2 : tie.Need-enum-known-place-2
 enum-known-place-2 c = search needs
@@ -114,7 +110,7 @@ part-copy-start c = search needs
 part-copy-end : tie.Need-part-copy-end
 part-copy-end c =
     let p = c .before .before .before .before in
-    omega (arith, lies (p .before .before) _ (p .place2 .given .1), registers (p .before .before .before .before))
+    omega (arith, lies (p .before .before) _ (p .place2 .given .1), sized (p .before .before .before .before) .registers)
 
 copy-requires-2 : tie.Need-copy-requires-2
 copy-requires-2 c κs = search needs

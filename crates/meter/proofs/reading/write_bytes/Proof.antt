@@ -1,5 +1,5 @@
 -- A reading in range fits in four bytes, so that `packing` writes all four.
-use Prim.Native.Nat.{_^_}
+use Prim.Native.Nat.{ℕ, _^_}
 use mathlib.Core.Path.{_≡_, ap, _∙_}
 use mathlib.Core.List.{List}
 use mathlib.Core.Bool.{true}
@@ -33,7 +33,7 @@ same-length : tie.Need-same-length
 same-length c = search needs
 
 -- four bytes of memory take a reading in range
-four-bytes : (reading : Reading) (m : List _) → readingInRange reading ≡ true → length m ≡ 4 → packing reading m ≡ outcome Done (readingBytes reading)
+four-bytes : (reading : Reading) (m : List ℕ) → readingInRange reading ≡ true → length m ≡ 4 → packing reading m ≡ outcome Done (readingBytes reading)
 unfolding packing readingInRange readingBytes
 four-bytes reading m h e = rw (e, lt-ltb reading (100 ^ 4) (omega (arith, leb-true reading 99999999 h)))
 

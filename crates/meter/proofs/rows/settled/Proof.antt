@@ -1,4 +1,4 @@
--- The invariant, `Moving`: the rows below place `i` are moved. Its laws say what a turn and the end make of it.
+-- The invariant, `Moving`: the rows from row `i` on are moved. Its laws say what a turn and the end make of it.
 use mathlib.Core.Path.{_∙_}
 use mathlib.Core.List.{[]}
 use borrow.Author.Needs.{needs}

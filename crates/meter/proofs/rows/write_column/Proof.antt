@@ -1,33 +1,32 @@
 -- The invariant, `Joining`: the readings passed are written end to end. Its laws say what a turn and the end make of it.
-use Prim.Native.Nat.{_+_, _-_, _≤_}
+use Prim.Native.Nat.{ℕ, _+_, _-_, _≤_}
 use mathlib.Core.Path.{_≡_, ap}
 use native.Mathlib.Omega.{arith}
 use borrow.Author.Needs.{needs}
 use lib.ListN.{length, length-take, length-drop}
+use Rattle.meter.specs.Reading.{readingBytes}
 use Rattle.meter.specs.Energies.{readingAt, columnBytes}
 use Rattle.meter.specs.MeterLaws.{reading-length, column-length}
 use Rattle.meter.specs.JoinLaws.{Joining, joining-start, joining-length, joining-room, joining-next, joining-end}
+use Rattle.meter.specs.Reading.{readingBytes}
 use Rattle.meter.specs.EnergiesLaws.{reading-in-range, column-joined}
 use Rattle.meter.proofs.rows.write_column.Statement.{statement}
 use Rattle.meter.proofs.rows.write_column.Tie as tie
 
 abbrev Inv-loop : tie.InvT-loop
-Inv-loop rate row count out₀ rows i₀ at₀ out i at = Joining (columnBytes rows rate row) count out₀ i at out
+Inv-loop rate row count out₀ rows i₀ at₀ out i at =
+    Joining (λ n. readingBytes (readingAt rows (row + n) rate)) (columnBytes rows rate row) count out₀ i at out
 
 abbrev μ-loop : tie.MeasureT-loop
 μ-loop rate row count out₀ rows i₀ at₀ out i at = count - i
 
 -- there is room for the next reading
 room : (c : tie.In-loop Inv-loop μ-loop) → c .before .loop .at + 4 ≤ length (c .before .loop .out)
-room c =
-    let a = c .before .before .before .args in
-    rw reading-length at (joining-room (column-joined (a .t1) (a .rate) (a .row)) (c .before .loop .inv) (c .loop-test .taken))
+room c = rw reading-length at (joining-room (c .before .loop .inv) (c .loop-test .taken))
 
 -- the memory keeps its length
 kept : (c : tie.At-loop Inv-loop μ-loop) → length (c .loop .out) ≡ length (c .before .before .args .out .now)
-kept c =
-    let a = c .before .before .args in
-    joining-length (column-joined (a .t1) (a .rate) (a .row)) (c .loop .inv)
+kept c = joining-length (c .loop .inv)
 
 loop-holds : tie.Need-loop-holds Inv-loop μ-loop
 loop-holds c =
@@ -80,17 +79,14 @@ loop-again : tie.Need-loop-again Inv-loop μ-loop
 unfolding readingAt
 loop-again c =
     let l = c .before .before .before .before .before in
-    let a = l .before .before .before .args in
-    joining-next (column-joined (a .t1) (a .rate) (a .row)) (l .before .loop .inv) (l .loop-test .taken)
-    (ap (λ n. l .before .loop .at + n) (reading-length _)) (c .before .before .write-bytes .ensures)
+    joining-next (l .before .loop .inv) (l .loop-test .taken)
+    (ap (λ (n : ℕ). l .before .loop .at + n) (reading-length _)) (c .before .before .write-bytes .ensures)
 
 same-length : tie.Need-same-length Inv-loop μ-loop
 same-length c = kept (c .before)
 
 returns : tie.Need-returns Inv-loop μ-loop
-returns c =
-    let a = c .before .before .before .args in
-    joining-end (column-joined (a .t1) (a .rate) (a .row)) (c .before .loop .inv) (c .loop-test .left)
+returns c = joining-end (c .before .loop .inv) (c .loop-test .left)
 
 pub write-column-spec : {M : Type 1} → statement M
 write-column-spec =

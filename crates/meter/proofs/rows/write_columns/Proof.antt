@@ -4,7 +4,7 @@ use mathlib.Core.Path.{_≡_, ap}
 use native.Mathlib.Omega.{arith}
 use borrow.Author.Needs.{needs}
 use lib.ListN.{length, length-take, length-drop}
-use Rattle.meter.specs.Energies.{columnsBytes}
+use Rattle.meter.specs.Energies.{columnBytes, columnsBytes}
 use Rattle.meter.specs.MeterLaws.{column-length, columns-length}
 use Rattle.meter.specs.JoinLaws.{Joining, joining-start, joining-length, joining-room, joining-next, joining-end}
 use Rattle.meter.specs.EnergiesLaws.{columns-joined}
@@ -12,22 +12,19 @@ use Rattle.meter.proofs.rows.write_columns.Statement.{statement}
 use Rattle.meter.proofs.rows.write_columns.Tie as tie
 
 abbrev Inv-loop : tie.InvT-loop
-Inv-loop rows rate count row span out₀ i₀ at₀ out i at = Joining (λ n. columnsBytes rows rate n row span) count out₀ i at out
+Inv-loop rows rate count row span out₀ i₀ at₀ out i at =
+    Joining (λ n. columnBytes rows (rate + n) row span) (λ n. columnsBytes rows rate n row span) count out₀ i at out
 
 abbrev μ-loop : tie.MeasureT-loop
 μ-loop rows rate count row span out₀ i₀ at₀ out i at = count - i
 
 -- there is room for the next column
 room : (c : tie.In-loop Inv-loop μ-loop) → c .before .loop .at + 4 * c .before .before .before .args .span ≤ length (c .before .loop .out)
-room c =
-    let a = c .before .before .before .args in
-    rw column-length at (joining-room (columns-joined (a .rows) (a .rate) (a .row) (a .span)) (c .before .loop .inv) (c .loop-test .taken))
+room c = rw column-length at (joining-room (c .before .loop .inv) (c .loop-test .taken))
 
 -- the memory keeps its length
 kept : (c : tie.At-loop Inv-loop μ-loop) → length (c .loop .out) ≡ length (c .before .before .args .out .now)
-kept c =
-    let a = c .before .before .args in
-    joining-length (columns-joined (a .rows) (a .rate) (a .row) (a .span)) (c .loop .inv)
+kept c = joining-length (c .loop .inv)
 
 loop-holds : tie.Need-loop-holds Inv-loop μ-loop
 loop-holds c =
@@ -69,17 +66,14 @@ loop-less c = search needs
 loop-again : tie.Need-loop-again Inv-loop μ-loop
 loop-again c =
     let l = c .before .before .before .before in
-    let a = l .before .before .before .args in
-    joining-next (columns-joined (a .rows) (a .rate) (a .row) (a .span)) (l .before .loop .inv) (l .loop-test .taken)
+    joining-next (l .before .loop .inv) (l .loop-test .taken)
     (ap (λ (n : ℕ). l .before .loop .at + n) (column-length _ _ _ _)) (c .before .before .write-column .ensures)
 
 same-length : tie.Need-same-length Inv-loop μ-loop
 same-length c = kept (c .before)
 
 returns : tie.Need-returns Inv-loop μ-loop
-returns c =
-    let a = c .before .before .before .args in
-    joining-end (columns-joined (a .rows) (a .rate) (a .row) (a .span)) (c .before .loop .inv) (c .loop-test .left)
+returns c = joining-end (c .before .loop .inv) (c .loop-test .left)
 
 pub write-columns-spec : {M : Type 1} → statement M
 write-columns-spec =
