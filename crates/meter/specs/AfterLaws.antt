@@ -11,7 +11,7 @@ use Rattle.item.specs.AddressLaws.{good}
 use Rattle.item.specs.TableLaws.{listed-most}
 use Rattle.item.specs.declared.table.Lookup.{Lookup}
 use Rattle.item.specs.declared.table.Lookup.the-variants.{Listed, NotListed}
-use Rattle.meter.specs.Energies.{Rows}
+use Rattle.energy.specs.Energies.{Rows}
 use Rattle.meter.specs.Meter.{Sized, withRegisters, placeOf}
 use Rattle.meter.specs.MeterLaws.{part-length, put-length, only-registers, registers-decimal, value-length, value-sized}
 use Rattle.meter.specs.Ranges.{InRanges, ranges-again}

@@ -16,7 +16,7 @@ use Rattle.item.specs.Reply.{replyTo, otherError, noSuchData, notAuthorised}
 use Rattle.item.specs.Same.{same}
 use Rattle.item.specs.declared.table.Lookup.{Lookup}
 use Rattle.item.specs.declared.table.Lookup.the-variants.{Listed, NotListed}
-use Rattle.meter.specs.Energies.{Rows}
+use Rattle.energy.specs.Energies.{Rows}
 use Rattle.meter.specs.Meter.{withPart, withAddress, withPasswords, withValue, noted, passwordAt, placeOf, valueHeld, withinRanges}
 use Rattle.meter.specs.Request.{commandOf, controlFor, addressed, identifierOf, itemAsked, levelOf, passwordOf, operatorOf, writtenValue, newLevelOf, newPasswordOf}
 use Rattle.meter.specs.declared.Meter.{Meter}

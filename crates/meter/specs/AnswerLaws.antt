@@ -15,7 +15,7 @@ use Rattle.frame.specs.Recognition.{exactlyOne}
 use Rattle.frame.specs.RecognitionLaws.{one-frame, frame-one}
 use Rattle.item.specs.Reply.{replyTo}
 use Rattle.frame.specs.MemoryLaws.{pick-cases}
-use Rattle.meter.specs.Energies.{Rows}
+use Rattle.energy.specs.Energies.{Rows}
 use Rattle.meter.specs.Meter.{withinRanges}
 use Rattle.meter.specs.Ranges.{InRanges, within-ranges}
 use Rattle.meter.specs.Request.{controlFor, addressed}

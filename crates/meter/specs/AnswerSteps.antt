@@ -2,7 +2,7 @@
 use Prim.Native.Nat.{ℕ, _+_, _≤_}
 use mathlib.Core.Path.{_≡_, refl, sym, ap, _∙_}
 use mathlib.Core.List.{List, [], _++_, map, append-nil}
-use mathlib.Core.Bool.{true, and-eq-true-iff}
+use mathlib.Core.Bool.{true}
 use native.Mathlib.Omega.{arith}
 use lib.ListN.{length, take, drop, replicate, length-drop, length-map}
 use lib.Seq.{length-take-le, take-length, take-at, drop-at}
@@ -15,19 +15,12 @@ use Rattle.frame.specs.RecognitionLaws.{one-frame, frame-spans, frame-most}
 use Rattle.frame.specs.Writing.{frameFor, writing}
 use Rattle.frame.specs.declared.Written.{Written}
 use Rattle.frame.specs.declared.Written.the-variants.{Length}
-use Rattle.meter.specs.Energies.{Rows, rowsInRange}
-use Rattle.meter.specs.Meter.{withinRanges}
+use Rattle.energy.specs.Energies.{Rows}
 use Rattle.meter.specs.Answer.{replies, replyData, carriedOut, answeredWith, delivered}
 use Rattle.meter.specs.declared.Meter.{Meter}
 use Rattle.meter.specs.declared.FrameAnswer.the-variants.{Replied}
 use Rattle.meter.specs.declared.request.Command.{Command}
 use Rattle.meter.specs.declared.request.Command.the-variants.{ReadData, ReadAddress, WriteData, WriteAddress, ChangePassword}
-
--- Within the ranges the readings are in theirs.
-pub ranges-readings : (m : Meter) (forward reverse : Rows) → withinRanges m forward reverse ≡ true
-    → (rowsInRange forward ≡ true) × (rowsInRange reverse ≡ true)
-unfolding withinRanges
-ranges-readings m forward reverse h = let parts = simp and-eq-true-iff at h in parts .1 .1
 
 -- Bytes copied to the front of memory, that front then mapped where it stands.
 pub copied-mapped : (f : ℕ → ℕ) (s m copied last : List ℕ) (n : ℕ) → n ≡ length s → copied ≡ take (length s) s ++ drop (length s) m

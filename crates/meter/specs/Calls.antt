@@ -10,11 +10,10 @@ use Rattle.frame.specs.Frame.{dataOf}
 use Rattle.frame.specs.Refusals.{outOfRange}
 use Rattle.item.specs.Address.{Good}
 use Rattle.item.specs.AddressLaws.{is-good}
-use Rattle.item.specs.Content.{within}
 use Rattle.item.specs.Decimal.{isDecimal, firstBadFrom, firstBad, allDecimal}
 use Rattle.frame.specs.MemoryLaws.{pick-cases}
-use Rattle.meter.specs.Reading.{Reading, zeroReading, readingInRange, plusAmount}
-use Rattle.meter.specs.Energies.{Rows, zeroRows, rowInRange, rowsInRange, pulsed, settled}
+use Rattle.energy.specs.Reading.{Reading, zeroReading, readingInRange, plusAmount}
+use Rattle.energy.specs.Energies.{Rows, zeroRows, rowInRange, rowsInRange, pulsed, settled, isRate, pulsedRows}
 use Rattle.meter.specs.Meter.{withKey, withinRanges, freshMeter}
 use Rattle.meter.specs.Ranges.{RowInRange, RowsInRange, InRanges, reading-most, within-ranges, ranges-again}
 use Rattle.meter.specs.Host.{created, keySet, pulsedBy, settledBy}
@@ -84,11 +83,14 @@ plus-in-range reading amount = reading-most _ .1 (omega arith)
 
 pulsed-in-range : (rows : Rows) (amount rate : ℕ) → RowsInRange rows → RowsInRange (pulsed rows amount rate)
 unfolding pulsed
-pulsed-in-range [] amount rate h = tt
-pulsed-in-range (row ∷ rows) amount rate h =
-    let total : List Reading = set row 0 (plusAmount (getD row 0 zeroReading) amount) in
-    let first : RowInRange total = set-in-range row 0 _ (h .0) (plus-in-range (getD row 0 zeroReading) amount) in
-    (set-in-range total rate _ first (plus-in-range (getD row rate zeroReading) amount), h .1)
+pulsed-in-range rows amount rate h = pick-cases RowsInRange (isRate rate) (λ _. go rows h) (λ _. h)
+  where
+    go : (rows : Rows) → RowsInRange rows → RowsInRange (pulsedRows rows amount rate)
+    go [] h = tt
+    go (row ∷ rows) h =
+        let total : List Reading = set row 0 (plusAmount (getD row 0 zeroReading) amount) in
+        let first : RowInRange total = set-in-range row 0 _ (h .0) (plus-in-range (getD row 0 zeroReading) amount) in
+        (set-in-range total rate _ first (plus-in-range (getD row rate zeroReading) amount), h .1)
 
 take-in-range : (n : ℕ) (rows : Rows) → RowsInRange rows → RowsInRange (take n rows)
 take-in-range zero rows h = tt
@@ -129,7 +131,7 @@ module _ (m : Meter) (forward reverse : Rows) (h : InRanges m forward reverse) w
   unfolding pulsedBy
   pulse-kept amount direction rate =
       rw (within-ranges m forward reverse .1 h)
-      (pick-cases CountedKept (leb direction 1 && within 1 4 rate)
+      (pick-cases CountedKept (leb direction 1 && isRate rate)
       (λ _. pick-cases CountedKept (eqb direction 0)
       (λ _. (readings-again (pulsed-in-range forward amount rate (h .forward-readings)) (h .reverse-readings), λ r. omega (arith, ap hostNumber r)))
       (λ _. (readings-again (h .forward-readings) (pulsed-in-range reverse amount rate (h .reverse-readings)), λ r. omega (arith, ap hostNumber r))))

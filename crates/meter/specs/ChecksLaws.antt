@@ -9,7 +9,7 @@ use borrow.Author.Tests.{leb-true}
 use Rattle.frame.specs.Memory.{pick}
 use Rattle.item.specs.Content.{within}
 use Rattle.item.specs.Reply.{replyTo}
-use Rattle.meter.specs.Energies.{Rows}
+use Rattle.energy.specs.Energies.{Rows}
 use Rattle.meter.specs.Request.{controlFor, identifierOf, levelOf, newLevelOf}
 use Rattle.meter.specs.Answer as answer
 use Rattle.meter.specs.Checks.{checkOf, readRequest, writeRequest, passwordRequest}

@@ -11,8 +11,9 @@ use Rattle.item.specs.Decimal.{isDecimal, firstBadFrom, firstBad, digits, lowDi
 use Rattle.item.specs.Reply.{controlCode, replyTo}
 use Rattle.item.specs.Same.{same}
 use Rattle.item.specs.Table.{itemOf, energyItem, readings, otherRows, found}
-use Rattle.meter.specs.Reading.{readingBytes}
-use Rattle.meter.specs.Energies.{Rows, zeroRows, readingAt, columnBytes, columnsBytes}
+use Rattle.energy.specs.Reading.{readingBytes}
+use Rattle.energy.specs.Energies.{Rows, zeroRows, readingAt}
+use Rattle.meter.specs.Columns.{columnBytes, columnsBytes}
 use Rattle.meter.specs.Meter.{withPart, withKey, passwordAt, placeOf, heldAt, valueHeld, withValue, freshMeter}
 use Rattle.meter.specs.Request.{commandOf, addressed, identifierOf, itemAsked, levelOf, passwordOf, operatorOf, writtenValue}
 use Rattle.meter.specs.Answer.{replies, firstFailing, authorised, checksOf, replyData, meterAfter, carriedOut, treated}

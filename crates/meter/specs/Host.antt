@@ -6,11 +6,10 @@ use lib.Dec.{leb, eqb}
 use Rattle.frame.specs.Memory.{pick}
 use Rattle.frame.specs.Refusals.{badArgument, outOfRange}
 use Rattle.item.specs.Address.{isGood}
-use Rattle.item.specs.Content.{within}
-use Rattle.meter.specs.Energies.{Rows, zeroRows, pulsed, settled}
+use Rattle.energy.specs.Energies.{Rows, zeroRows, isRate, pulsed, settled}
 use Rattle.meter.specs.Meter.{freshMeter, withKey, withinRanges}
 use Rattle.meter.specs.declared.Meter.{Meter}
-use Rattle.meter.specs.declared.energies.Energies.{Energies}
+use Rattle.energy.specs.declared.Energies.{Energies}
 use Rattle.meter.specs.declared.Created.{Created}
 use Rattle.meter.specs.declared.KeySet.{KeySet}
 use Rattle.meter.specs.declared.Counted.{Counted}
@@ -37,15 +36,15 @@ unfoldable pub keySet : Bool → Meter → Rows → Rows → KeySet
 keySet on m forward reverse =
     pick (withinRanges m forward reverse) (keyGiven (withKey on m) Done) (keyGiven m (Refused outOfRange))
 
--- A direction is 0 or 1, a rate 1 to 4.
+-- The readings that a host call hands back.
 abbrev pub counted : Rows → Rows → HostAnswer → Counted
 counted forward reverse answer = record { energies = energiesOf forward reverse; answer = answer }
 
--- A pulse amount added: 16, then 8, else row 0's rate and total of its direction.
+-- A pulse amount added: 16, then 8 for a direction not 0 or 1 or a rate not 1 to 4, else row 0's rate and total of its direction.
 unfoldable pub pulsedBy : ℕ → ℕ → ℕ → Meter → Rows → Rows → Counted
 pulsedBy amount direction rate m forward reverse =
     pick (withinRanges m forward reverse)
-    (pick (leb direction 1 && within 1 4 rate)
+    (pick (leb direction 1 && isRate rate)
     (pick (eqb direction 0)
     (counted (pulsed forward amount rate) reverse Done)
     (counted forward (pulsed reverse amount rate) Done))

@@ -1,12 +1,9 @@
-pub mod Reading
-pub mod Energies
+pub mod Columns
+pub mod JoinLaws
+pub mod ColumnsLaws
 pub mod Meter
 pub mod MeterLaws
 pub mod PartLaws
-pub mod TestLaws
-pub mod MoveLaws
-pub mod JoinLaws
-pub mod EnergiesLaws
 pub mod Host
 pub mod Request
 pub mod Answer

@@ -11,7 +11,8 @@ use Rattle.item.specs.Decimal.{allDecimal}
 use Rattle.item.specs.declared.table.Kind.{Kind}
 use Rattle.item.specs.declared.table.Kind.the-variants.{Energy, Date, Time, DemandPeriod, Slip, Address, MeterNumber, FirstSettlementDay, SecondSettlementDay, ThirdSettlementDay}
 use Rattle.item.specs.declared.table.Item.{Item}
-use Rattle.meter.specs.Energies.{Rows, rowsInRange, columnsBytes}
+use Rattle.energy.specs.Energies.{Rows, rowsInRange}
+use Rattle.meter.specs.Columns.{columnsBytes}
 use Rattle.meter.specs.declared.Meter.{Meter}
 use Rattle.meter.specs.declared.place.Place.{Place}
 use Rattle.meter.specs.declared.place.Place.the-variants.{Readings, OwnAddress, Register}

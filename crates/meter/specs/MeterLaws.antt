@@ -1,5 +1,5 @@
--- Laws of what a meter holds: the lengths of readings and values, a part of a list put in another's place, and the places of registers.
-use Prim.Native.Nat.{ℕ, zero, suc, _+_, _*_, _-_, _≤_, _<_}
+-- Laws of what a meter holds: the lengths of values, a part of a list put in another's place, and the places of registers.
+use Prim.Native.Nat.{ℕ, _+_, _*_, _-_, _≤_, _<_}
 use mathlib.Core.Path.{_≡_, refl, sym, ap, _∙_}
 use mathlib.Core.List.{List, _∷_, _++_, append-assoc}
 use mathlib.Core.Bool.{Bool, true, false, true≢false}
@@ -9,36 +9,19 @@ use lib.Seq.{length-take-le, take-at, take-append-le, drop-append-le, drop-appen
 use lib.Dec.{leb}
 use borrow.Author.Tests.{leb-true, leb-false}
 use Rattle.item.specs.Decimal.{Decimal}
-use Rattle.item.specs.DecimalLaws.{packed-length, decimal-take, decimal-drop, decimal-join}
+use Rattle.item.specs.DecimalLaws.{decimal-take, decimal-drop, decimal-join}
 use Rattle.item.specs.Table.{itemOf, otherRows}
 use Rattle.item.specs.TableLaws.{Within, listed-rule, writable-once}
 use Rattle.item.specs.declared.table.Kind.{Kind}
 use Rattle.item.specs.declared.table.Kind.the-variants.{Date, Time, DemandPeriod, Slip, Address, MeterNumber, FirstSettlementDay, SecondSettlementDay, ThirdSettlementDay}
 use Rattle.item.specs.declared.table.Item.{Item}
 use Rattle.item.specs.declared.table.Lookup.the-variants.{Listed}
-use Rattle.meter.specs.Reading.{Reading, readingBytes}
-use Rattle.meter.specs.Energies.{Rows, columnBytes, columnsBytes}
+use Rattle.energy.specs.Energies.{Rows}
+use Rattle.meter.specs.ColumnsLaws.{columns-length}
 use Rattle.meter.specs.Meter.{Sized, part, withPart, withRegisters, noted, placeOf, heldAt, valueHeld, withValue}
 use Rattle.meter.specs.declared.Meter.{Meter}
 use Rattle.meter.specs.declared.place.Place.{Place}
 use Rattle.meter.specs.declared.place.Place.the-variants.{Readings, OwnAddress, Register}
-
--- A reading has four bytes, and so have each of a column and of columns.
-pub reading-length : (reading : Reading) → length (readingBytes reading) ≡ 4
-unfolding readingBytes
-reading-length reading = packed-length 4 reading
-
-pub column-length : (rows : Rows) (rate row count : ℕ) → length (columnBytes rows rate row count) ≡ 4 * count
-unfolding columnBytes
-column-length rows rate row zero = refl
-column-length rows rate row (suc count) =
-    rw (length-append, reading-length, column-length rows rate (row + 1) count) (omega arith)
-
-pub columns-length : (rows : Rows) (rate count row span : ℕ) → length (columnsBytes rows rate count row span) ≡ 4 * count * span
-unfolding columnsBytes
-columns-length rows rate zero row span = omega arith
-columns-length rows rate (suc count) row span =
-    rw (length-append, column-length, columns-length rows (rate + 1) count row span) (omega arith)
 
 -- A part has its length, and a part of what stands in front is the same whatever follows.
 pub part-length : (at n : ℕ) (xs : List ℕ) → at + n ≤ length xs → length (part at n xs) ≡ n

@@ -9,8 +9,8 @@ use Rattle.item.specs.Address.{Good}
 use Rattle.item.specs.AddressLaws.{good, is-good}
 use Rattle.item.specs.Decimal.{Decimal}
 use Rattle.item.specs.DecimalLaws.{all-decimal, decimal-all}
-use Rattle.meter.specs.Energies.{Rows, rowInRange, rowsInRange}
-use Rattle.meter.specs.Reading.{Reading, readingInRange}
+use Rattle.energy.specs.Energies.{Rows, rowInRange, rowsInRange}
+use Rattle.energy.specs.Reading.{Reading, readingInRange}
 use Rattle.meter.specs.Meter.{withinRanges}
 use Rattle.meter.specs.declared.Meter.{Meter}
 

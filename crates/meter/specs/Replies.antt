@@ -10,7 +10,7 @@ use Rattle.frame.specs.Frame.{Frame, addressOf, controlOf, dataOf, masked}
 use Rattle.frame.specs.FrameLaws.{frame-length, frame-for, address-back}
 use Rattle.frame.specs.Writing.{frameFor}
 use Rattle.item.specs.Reply.{replyTo}
-use Rattle.meter.specs.Energies.{Rows}
+use Rattle.energy.specs.Energies.{Rows}
 use Rattle.meter.specs.Meter.{Sized}
 use Rattle.meter.specs.Request.{controlFor}
 use Rattle.meter.specs.Answer.{replies, replyData, meterAfter, delivered, answered}

@@ -12,7 +12,7 @@ use Rattle.item.specs.Address.{wildcards, shortMatches, ShortFor}
 use Rattle.item.specs.AddressLaws.{short-for}
 use Rattle.item.specs.Same.{same}
 use Rattle.item.specs.SameLaws.{same-equal}
-use Rattle.meter.specs.Energies.{Rows}
+use Rattle.energy.specs.Energies.{Rows}
 use Rattle.meter.specs.Meter.{Sized}
 use Rattle.meter.specs.Ranges.{InRanges}
 use Rattle.meter.specs.MeterLaws.{part-length}

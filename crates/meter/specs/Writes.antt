@@ -19,7 +19,7 @@ use Rattle.item.specs.SameLaws.{same-equal, same-refl, equal-same}
 use Rattle.item.specs.Table.{itemOf}
 use Rattle.item.specs.declared.table.Item.{Item}
 use Rattle.item.specs.declared.table.Lookup.the-variants.{Listed}
-use Rattle.meter.specs.Energies.{Rows}
+use Rattle.energy.specs.Energies.{Rows}
 use Rattle.meter.specs.Meter.{Sized, passwordAt, valueHeld}
 use Rattle.meter.specs.MeterLaws.{noted-value, value-length, value-back, value-other}
 use Rattle.meter.specs.Ranges.{InRanges}

@@ -1,19 +1,18 @@
 // A meter of DL/T 645-2007: document 01, "What the meter holds" and "How the meter treats a frame". Every operation takes the
 // meter and both directions' readings by value, refuses with 16 what is outside document 01's ranges before anything else,
 // and hands back what it changed.
-pub mod energies;
+mod columns;
 mod password;
 mod place;
 mod read;
-pub mod reading;
 mod request;
-mod rows;
 mod treat;
 mod treated;
 mod write;
 
-use energies::Energies;
-use energies::Rows;
+use energy::Energies;
+use energy::Rows;
+use energy::rows;
 use frame::Written;
 use frame::refusal::BAD_ARGUMENT;
 use frame::refusal::NOT_ONE_FRAME;
@@ -227,22 +226,19 @@ impl Meter {
         if 1 < direction {
             return hand_back(forward, reverse, HostAnswer::Refused(BAD_ARGUMENT));
         }
-        if rate < 1 {
-            return hand_back(forward, reverse, HostAnswer::Refused(BAD_ARGUMENT));
-        }
-        if 4 < rate {
+        if !rows::is_rate(rate) {
             return hand_back(forward, reverse, HostAnswer::Refused(BAD_ARGUMENT));
         }
         if direction == 0 {
             return hand_back(
-                rows::pulsed(forward, amount, rate as usize),
+                rows::pulsed(forward, amount, rate),
                 reverse,
                 HostAnswer::Done,
             );
         }
         hand_back(
             forward,
-            rows::pulsed(reverse, amount, rate as usize),
+            rows::pulsed(reverse, amount, rate),
             HostAnswer::Done,
         )
     }

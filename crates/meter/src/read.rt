@@ -1,6 +1,6 @@
 // Reads: 11, the value of an item, and 13, the address.
 use crate::Meter;
-use crate::energies::Rows;
+use crate::columns::write_columns;
 use crate::place::Place;
 use crate::place::place_of;
 use crate::request::Check;
@@ -8,9 +8,9 @@ use crate::request::Command;
 use crate::request::ReadRequest;
 use crate::request::has_length;
 use crate::request::read_request;
-use crate::rows;
 use crate::treated;
 use crate::treated::Treated;
+use energy::Rows;
 use frame::refusal::SILENT_BY_RULE;
 use item::reply::NO_SUCH_DATA;
 use item::reply::OTHER_ERROR;
@@ -19,11 +19,9 @@ use item::table::Lookup;
 use item::table::item_of;
 ghost use mathlib.Core.Path.{_≡_};
 ghost use mathlib.Core.List.{[]};
-ghost use mathlib.Core.Bool.{true};
 ghost use Prim.Native.Nat.{_≤_};
 ghost use lib.ListN.{length};
 ghost use Rattle.frame.specs.Memory.{over};
-ghost use Rattle.meter.specs.Energies.{rowsInRange};
 ghost use Rattle.meter.specs.Meter.{placeOf, valueHeld};
 ghost use Rattle.meter.specs.MeterLaws.{Lies};
 ghost use Rattle.meter.specs.Answer.{carriedOut};
@@ -31,7 +29,6 @@ ghost use Rattle.meter.specs.Treated.{Means};
 
 // Writes the value that a meter holds for an item to the front of the output buffer.
 fn write_value(meter: Meter, forward: Rows, reverse: Rows, item: Item, out: &mut [u8])
-    requires { ⌜ (rowsInRange forward ≡ true) × (rowsInRange reverse ≡ true) ⌝ }
     requires { ⌜ Lies (item .length) (placeOf (item .kind)) ⌝ }
     requires { ⌜ item .length ≤ length (now out) ⌝ }
     ensures { λ _. ⌜ now (out .exit) ≡ over (valueHeld item meter forward reverse) (now (out .entry)) ⌝ }
@@ -47,10 +44,10 @@ fn write_value(meter: Meter, forward: Rows, reverse: Rows, item: Item, out: &mut
             rows,
         } => {
             if direction == 0 {
-                rows::write_columns(forward, rate, rates, row, rows, out);
+                write_columns(forward, rate, rates, row, rows, out);
                 return;
             }
-            rows::write_columns(reverse, rate, rates, row, rows, out);
+            write_columns(reverse, rate, rates, row, rows, out);
         }
         Place::OwnAddress => {
             let address = meter.address;
@@ -66,7 +63,6 @@ fn write_value(meter: Meter, forward: Rows, reverse: Rows, item: Item, out: &mut
 
 // 11: L = 4 (01); identifier in table (02). The reply has the identifier and the value.
 pub(crate) fn read_data(meter: Meter, forward: Rows, reverse: Rows, meant: &[u8]) -> Treated
-    requires { ⌜ (rowsInRange forward ≡ true) × (rowsInRange reverse ≡ true) ⌝ }
     ensures { λ r. ⌜ Means r (carriedOut Command.ReadData (now (meant .entry)) meter forward reverse) ⌝ }
 {
     let ReadRequest::Identifier(identifier) = read_request(meant) else {

@@ -1,6 +1,5 @@
 // How a meter treats a frame: checks 3 and 4, then by control.
 use crate::Meter;
-use crate::energies::Rows;
 use crate::password::change_password;
 use crate::read::read_address;
 use crate::read::read_data;
@@ -12,6 +11,7 @@ use crate::treated;
 use crate::treated::Treated;
 use crate::write::write_address;
 use crate::write::write_data;
+use energy::Rows;
 use frame::refusal::NOT_FOR_THIS_METER;
 ghost use mathlib.Core.Path.{_≡_};
 ghost use mathlib.Core.Bool.{true};
@@ -19,7 +19,6 @@ ghost use lib.ListN.{replicate};
 ghost use Rattle.frame.specs.Frame.{addressOf, dataOf};
 ghost use Rattle.frame.specs.Memory.{over};
 ghost use Rattle.frame.specs.Recognition.{exactlyOne};
-ghost use Rattle.meter.specs.Energies.{rowsInRange};
 ghost use Rattle.meter.specs.Answer.{carriedOut, treated};
 ghost use Rattle.meter.specs.Treated.{Means};
 
@@ -47,7 +46,6 @@ fn data_of(bytes: &[u8]) -> [u8; 200]
 
 // A command carried out, by control. Only 11 looks at the readings.
 fn carry_out(command: Command, meter: Meter, forward: Rows, reverse: Rows, meant: &[u8]) -> Treated
-    requires { ⌜ (rowsInRange forward ≡ true) × (rowsInRange reverse ≡ true) ⌝ }
     ensures { λ r. ⌜ Means r (carriedOut command (now (meant .entry)) meter forward reverse) ⌝ }
 {
     match command {
@@ -61,7 +59,6 @@ fn carry_out(command: Command, meter: Meter, forward: Rows, reverse: Rows, meant
 
 // What a frame comes to.
 pub(crate) fn treat(meter: Meter, forward: Rows, reverse: Rows, bytes: &[u8]) -> Treated
-    requires { ⌜ (rowsInRange forward ≡ true) × (rowsInRange reverse ≡ true) ⌝ }
     requires { ⌜ exactlyOne (now bytes) ≡ true ⌝ }
     ensures { λ r. ⌜ Means r (treated (now (bytes .entry)) meter forward reverse) ⌝ }
 {

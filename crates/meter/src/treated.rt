@@ -3,7 +3,6 @@ use crate::Meter;
 use crate::request::Command;
 use crate::request::control_of;
 use item::reply::reply_to;
-ghost use mathlib.Core.Path.{_≡_};
 ghost use mathlib.Core.Bool.{true, false};
 ghost use Prim.Native.Nat.{_≤_};
 ghost use lib.ListN.{take};

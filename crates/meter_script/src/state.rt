@@ -2,11 +2,11 @@
 use crate::answer;
 use crate::answer::write_answer;
 use crate::answer::write_frame_answer;
+use energy::Energies;
+use energy::Rows;
 use meter::Counted;
 use meter::Created;
 use meter::Meter;
-use meter::energies::Energies;
-use meter::energies::Rows;
 
 // The meter, its readings, and the size of the output buffer for a frame.
 pub struct State {

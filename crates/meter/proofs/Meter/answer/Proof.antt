@@ -6,7 +6,6 @@ use borrow.Author.Tests.{not-true, not-false, le-leb, lt-leb}
 use Rattle.frame.specs.Recognition.{exactlyOne}
 use Rattle.meter.specs.Meter.{withinRanges}
 use Rattle.meter.specs.Answer.{answered}
-use Rattle.meter.specs.AnswerSteps.{ranges-readings}
 use Rattle.meter.proofs.Meter.answer.Statement.{statement}
 use Rattle.meter.proofs.Meter.answer.Tie as tie
 
@@ -54,7 +53,7 @@ returns-3 c =
     rw (ranges (e .before), le-leb _ _ (e .if2 .left), sym (t .before .is-frame .ensures) ∙ not-true _ (t .if3 .taken), c .refused3 .ensures)
 
 treat-requires : tie.Need-treat-requires
-treat-requires c κs = (ranges-readings _ _ _ (ranges (c .before .before .before)), one c)
+treat-requires c κs = one c
 
 deliver-requires : tie.Need-deliver-requires
 deliver-requires c κs = search needs

@@ -5,7 +5,7 @@ use borrow.Author.Needs.{needs}
 use borrow.Author.Tests.{not-true, not-false}
 use Rattle.item.specs.Address.{isGood}
 use Rattle.item.specs.Decimal.{allDecimal}
-use Rattle.meter.specs.Energies.{rowsInRange}
+use Rattle.energy.specs.Energies.{rowsInRange}
 use Rattle.meter.specs.Meter.{withinRanges}
 use Rattle.meter.proofs.Meter.is_within_ranges.Statement.{statement}
 use Rattle.meter.proofs.Meter.is_within_ranges.Tie as tie

@@ -126,7 +126,7 @@ write-value-requires c κs =
     let i = c .before .before .before .before .before in
     let room : length (c .before .before .copy .last .1 .0) ≡ 200 =
     ap length (copied-data (c .before .before)) ∙ over-length (at-start i .args .meant .now) (replicate 200 0) (omega (arith, four i)) in
-    (at-start i .pre, (listed-lies _ _ (listed i), simp (length-take, length-drop) (omega (arith, most i, room))))
+    (listed-lies _ _ (listed i), simp (length-take, length-drop) (omega (arith, most i, room)))
 
 add-reply : tie.Need-add-reply
 add-reply c = omega (arith, most (c .before .before .before .before .before .before .before .before))

@@ -10,7 +10,7 @@ use lib.ListN.{length, take, drop}
 use lib.Dec.{eqb}
 use Rattle.frame.specs.MemoryLaws.{copied}
 use Rattle.frame.specs.Memory.{over, pick}
-use Rattle.meter.specs.Energies.{columnsBytes}
+use Rattle.meter.specs.Columns.{columnsBytes}
 use Rattle.meter.specs.Meter.{Sized, placeOf, heldAt, valueHeld}
 use Rattle.meter.specs.MeterLaws.{Lies}
 use Rattle.meter.specs.declared.place.Place.{Place}
@@ -28,8 +28,7 @@ module _ (c : tie.After-place-of) (place : Place) (e : c .place-of .result ≡ p
 
   -- the item's bytes lie there
   lies : Lies (c .before .before .args .item .length) place
-  lies =
-      rw found at (c .before .before .pre .1 .0)
+  lies = rw found at (c .before .before .pre .0)
 
   -- the value is what the place holds
   held : let a = c .before .before .args in heldAt place (a .item .length) (a .meter) (a .forward) (a .reverse) ≡ valueHeld (a .item) (a .meter) (a .forward) (a .reverse)
@@ -43,7 +42,7 @@ fit : (c : tie.After-place) →
     (f .1 .0 + f .1 .1 .0 ≤ 5) × (f .1 .1 .1 .0 + f .1 .1 .1 .1 .0 ≤ 13) × (4 * f .1 .1 .0 * f .1 .1 .1 .1 .0 ≤ length (s .args .out .now))
 fit c =
     let l = lies (c .before .before) _ (c .place .given .1) in
-    (l .0 .columns, l .0 .settlements, rw (l .1) at (c .before .before .before .before .pre .1 .1))
+    (l .0 .columns, l .0 .settlements, rw (l .1) at (c .before .before .before .before .pre .1))
 
 -- the columns are the value
 columns : (c : tie.After-place) (t : Bool) →
@@ -63,7 +62,7 @@ write-columns-requires : tie.Need-write-columns-requires
 write-columns-requires c κs =
     let p = c .before .before .before in
     let f = fit p in
-    ((f .0, f .1), (p .before .before .before .before .pre .0 .0, f .2))
+    ((f .0, f .1), f .2)
 
 same-length : tie.Need-same-length
 same-length c = search needs
@@ -79,7 +78,7 @@ write-columns-requires-2 : tie.Need-write-columns-requires-2
 write-columns-requires-2 c κs =
     let p = c .before .before .before in
     let f = fit p in
-    ((f .0, f .1), (p .before .before .before .before .pre .0 .1, f .2))
+    ((f .0, f .1), f .2)
 
 enum-told : tie.Need-enum-told
 enum-told c = search needs
@@ -91,7 +90,7 @@ copy-requires : tie.Need-copy-requires
 copy-requires c κs =
     let told = c .before .before .before in
     let s = told .before .before .before .before in
-    omega (arith, sized s .address, lies (told .before .before) _ (told .enum-told .given .1), s .pre .1 .1)
+    omega (arith, sized s .address, lies (told .before .before) _ (told .enum-told .given .1), s .pre .1)
 
 enum-known-place-2 : tie.Need-enum-known-place-2
 enum-known-place-2 c = search needs

@@ -33,14 +33,14 @@ entry c = at-start (c .before .before .before .before .before)
 -- the data fit the array, and are its front
 fits : (c : tie.After-data-of) → getD (entry c .args .bytes .now) 9 0 ≤ length (c .data-of .result)
 unfolding lengthOf
-fits c = rw (c .data-of .ensures) (data-fits _ (entry c .pre .1))
+fits c = rw (c .data-of .ensures) (data-fits _ (entry c .pre))
 
 front : (c : tie.After-data-of) → take (getD (entry c .args .bytes .now) 9 0) (c .data-of .result) ≡ dataOf (entry c .args .bytes .now)
 unfolding lengthOf
-front c = rw (c .data-of .ensures) (data-front _ (entry c .pre .1))
+front c = rw (c .data-of .ensures) (data-front _ (entry c .pre))
 
 shared-slice-read-command-of : tie.Need-shared-slice-read-command-of
-shared-slice-read-command-of c = omega (arith, one-spans _ (c .before .before .pre .1))
+shared-slice-read-command-of c = omega (arith, one-spans _ (c .before .before .pre))
 
 command-of-requires : tie.Need-command-of-requires
 command-of-requires c κs = search needs
@@ -79,7 +79,7 @@ data-of-requires : tie.Need-data-of-requires
 data-of-requires c κs = search needs
 
 shared-slice-read-length : tie.Need-shared-slice-read-length
-shared-slice-read-length c = omega (arith, one-spans _ (entry (c .before) .pre .1))
+shared-slice-read-length c = omega (arith, one-spans _ (entry (c .before) .pre))
 
 cast-length : tie.Need-cast-length
 cast-length c = omega (arith, c .shared-slice-known3 .given 9)

@@ -1,0 +1,79 @@
+-- A rate is a column; the two stores are those of `pulsedRow`, and row 0 is stored last.
+use Prim.Native.Nat.{_<_}
+use mathlib.Core.Path.{_≡_, sym, _∙_}
+use mathlib.Core.Bool.{true}
+use borrow.Author.Needs.{needs}
+use borrow.Author.Tests.{not-true, not-false}
+use Rattle.energy.specs.Energies.{isRate, pulsed}
+use Rattle.energy.specs.EnergiesLaws.{rate-column, pulsed-set}
+use Rattle.energy.proofs.rows.pulsed.Statement.{statement}
+use Rattle.energy.proofs.rows.pulsed.Tie as tie
+
+-- the number is a rate, and so a column
+is-rate : (c : tie.Else1) → isRate (c .before .before .args .rate) ≡ true
+is-rate c = sym (c .before .is-rate .ensures) ∙ not-false _ (c .if1 .left)
+
+column : (c : tie.Else1) → c .before .before .args .rate < 5
+column c = rate-column _ (is-rate c)
+
+is-rate-requires : tie.Need-is-rate-requires
+is-rate-requires c κs = search needs
+
+returns : tie.Need-returns
+unfolding pulsed
+returns c = rw (sym (c .before .is-rate .ensures) ∙ not-true _ (c .if1 .taken))
+
+array-copy-out-row : tie.Need-array-copy-out-row
+array-copy-out-row c = search needs
+
+array-read-plus : tie.Need-array-read-plus
+array-read-plus c = search needs
+
+plus-requires : tie.Need-plus-requires
+plus-requires c κs = search needs
+
+mul-plus : tie.Need-mul-plus
+mul-plus c = search needs
+
+array-read-plus-2 : tie.Need-array-read-plus-2
+array-read-plus-2 c = column (c .before .before)
+
+plus-requires-2 : tie.Need-plus-requires-2
+plus-requires-2 c κs = search needs
+
+array-write-row : tie.Need-array-write-row
+array-write-row c = search needs
+
+mul-row : tie.Need-mul-row
+mul-row c = search needs
+
+array-write-row-2 : tie.Need-array-write-row-2
+array-write-row-2 c = column (c .before .before .before)
+
+array-set-from-next : tie.Need-array-set-from-next
+array-set-from-next c = search needs
+
+returns-2 : tie.Need-returns-2
+unfolding pulsed
+returns-2 c =
+    let e = c .before .before .before in
+    let a = e .before .before .args in
+    rw (is-rate e, c .before .plus .ensures, c .plus2 .ensures) (pulsed-set (a .rows) (a .amount) (a .rate))
+
+pub pulsed-spec : {M : Type 1} → statement M
+pulsed-spec =
+    tie.close
+    (tie.spec
+    is-rate-requires
+    returns
+    array-copy-out-row
+    array-read-plus
+    plus-requires
+    mul-plus
+    array-read-plus-2
+    plus-requires-2
+    array-write-row
+    mul-row
+    array-write-row-2
+    array-set-from-next
+    returns-2)

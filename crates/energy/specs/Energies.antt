@@ -1,0 +1,60 @@
+-- The readings of one direction: thirteen rows of five. Row 0 is current, rows 1 to 12 are the last settlements; the columns are the
+-- total and rates 1 to 4.
+use Prim.Native.Nat.{ℕ}
+use mathlib.Core.Path.{_≡_}
+use mathlib.Core.List.{List, [], _∷_}
+use mathlib.Core.Bool.{Bool, true, _&&_}
+use lib.ListN.{length, getD, set, take, replicate}
+use Rattle.frame.specs.Memory.{pick}
+use Rattle.item.specs.Content.{within}
+use Rattle.energy.specs.Reading.{Reading, zeroReading, readingInRange, plusAmount}
+
+abbrev pub Rows : Type 0
+Rows = List (List Reading)
+
+-- What the type says of rows: thirteen of five.
+abbrev pub Fives : Rows → Type 0
+Fives [] = Unit
+Fives (row ∷ rows) = (length row ≡ 5) × Fives rows
+
+pub record Shaped (rows : Rows) : Type 0 where
+  pub thirteen : length rows ≡ 13
+  pub fives : Fives rows
+
+-- Every reading is within its range.
+unfoldable pub rowInRange : List Reading → Bool
+rowInRange [] = true
+rowInRange (reading ∷ row) = readingInRange reading && rowInRange row
+
+unfoldable pub rowsInRange : Rows → Bool
+rowsInRange [] = true
+rowsInRange (row ∷ rows) = rowInRange row && rowsInRange rows
+
+-- Readings zero.
+abbrev pub zeroRows : Rows
+zeroRows = replicate 13 (replicate 5 zeroReading)
+
+-- The reading of a row and a column.
+unfoldable pub readingAt : Rows → ℕ → ℕ → Reading
+readingAt rows row rate = getD (getD rows row []) rate zeroReading
+
+-- A pulse amount is added to row 0's rate and total.
+abbrev pub pulsedRow : List Reading → ℕ → ℕ → List Reading
+pulsedRow row amount rate =
+    set (set row 0 (plusAmount (getD row 0 zeroReading) amount)) rate (plusAmount (getD row rate zeroReading) amount)
+
+abbrev pub pulsedRows : Rows → ℕ → ℕ → Rows
+pulsedRows [] amount rate = []
+pulsedRows (row ∷ rows) amount rate = pulsedRow row amount rate ∷ rows
+
+-- A rate is 1 to 4.
+unfoldable pub isRate : ℕ → Bool
+isRate rate = within 1 4 rate
+
+unfoldable pub pulsed : Rows → ℕ → ℕ → Rows
+pulsed rows amount rate = pick (isRate rate) (pulsedRows rows amount rate) rows
+
+-- Every row moves down one, row 12 is dropped, and row 0 is kept.
+unfoldable pub settled : Rows → Rows
+settled [] = []
+settled (row ∷ rows) = row ∷ take 12 (row ∷ rows)

@@ -1,0 +1,5 @@
+pub mod Reading
+pub mod Energies
+pub mod TestLaws
+pub mod MoveLaws
+pub mod EnergiesLaws

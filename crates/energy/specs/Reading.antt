@@ -1,0 +1,24 @@
+-- A reading: hundredths of a kWh, 0 to 99,999,999. Only this file knows that it is a number.
+use Prim.Native.Nat.{ℕ, _+_, _%_}
+use mathlib.Core.List.{List}
+use mathlib.Core.Bool.{Bool}
+use lib.Dec.{leb}
+use Rattle.item.specs.Decimal.{packed}
+
+abbrev pub Reading : Type 0
+Reading = ℕ
+
+abbrev pub zeroReading : Reading
+zeroReading = 0
+
+-- 0 to 99,999,999.
+unfoldable pub readingInRange : Reading → Bool
+readingInRange reading = leb reading 99999999
+
+-- A reading's eight digits as four bytes.
+unfoldable pub readingBytes : Reading → List ℕ
+readingBytes reading = packed 4 (reading % 100000000)
+
+-- An amount added, modulo 100,000,000.
+unfoldable pub plusAmount : Reading → ℕ → Reading
+plusAmount reading amount = (reading + amount) % 100000000

@@ -1,0 +1,84 @@
+// Work on the thirteen rows of one direction. Rows move whole; what a reading is stands in reading.rt.
+use crate::Rows;
+use crate::reading;
+use crate::reading::Reading;
+ghost use mathlib.Core.Path.{_≡_};
+ghost use Rattle.energy.specs.Energies as energies;
+
+// Readings zero.
+pub fn zero() -> Rows
+    ensures { λ r. ⌜ r ≡ energies.zeroRows ⌝ }
+{
+    [[reading::ZERO; 5]; 13]
+}
+
+// Whether every reading of a row is within its range.
+fn row_in_range(row: [Reading; 5]) -> bool
+    ensures { λ r. ⌜ r ≡ energies.rowInRange row ⌝ }
+{
+    let mut i = 0;
+    while i < 5 {
+        if !reading::is_in_range(row[i]) {
+            return false;
+        }
+        i += 1;
+    }
+    true
+}
+
+// Whether every reading is within its range.
+pub fn in_range(rows: Rows) -> bool
+    ensures { λ r. ⌜ r ≡ energies.rowsInRange rows ⌝ }
+{
+    let mut i = 0;
+    while i < 13 {
+        let row = rows[i];
+        if !row_in_range(row) {
+            return false;
+        }
+        i += 1;
+    }
+    true
+}
+
+// Whether a number is a rate, 1 to 4.
+pub fn is_rate(rate: u8) -> bool
+    ensures { λ r. ⌜ r ≡ energies.isRate rate ⌝ }
+{
+    if 1 <= rate {
+        return rate <= 4;
+    }
+    false
+}
+
+// A pulse amount added to row 0's rate and total; what is no rate changes nothing.
+pub fn pulsed(rows: Rows, amount: u32, rate: u8) -> Rows
+    ensures { λ r. ⌜ r ≡ energies.pulsed rows amount rate ⌝ }
+{
+    if !is_rate(rate) {
+        return rows;
+    }
+    let column = rate as usize;
+    let mut next = rows;
+    let mut row = next[0];
+    let total = reading::plus(row[0], amount);
+    let of_rate = reading::plus(row[column], amount);
+    row[0] = total;
+    row[column] = of_rate;
+    next[0] = row;
+    next
+}
+
+// Every row one down; row 12 is dropped and row 0 kept.
+pub fn settled(rows: Rows) -> Rows
+    ensures { λ r. ⌜ r ≡ energies.settled rows ⌝ }
+{
+    let mut next = rows;
+    let mut i = 12;
+    while 0 < i {
+        let row = rows[i - 1];
+        next[i] = row;
+        i -= 1;
+    }
+    next
+}
