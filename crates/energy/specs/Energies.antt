@@ -12,15 +12,6 @@ use Rattle.energy.specs.Reading.{Reading, zeroReading, readingInRange, p
 abbrev pub Rows : Type 0
 Rows = List (List Reading)
 
--- What the type says of rows: thirteen of five.
-abbrev pub Fives : Rows → Type 0
-Fives [] = Unit
-Fives (row ∷ rows) = (length row ≡ 5) × Fives rows
-
-pub record Shaped (rows : Rows) : Type 0 where
-  pub thirteen : length rows ≡ 13
-  pub fives : Fives rows
-
 -- Every reading is within its range.
 unfoldable pub rowInRange : List Reading → Bool
 rowInRange [] = true

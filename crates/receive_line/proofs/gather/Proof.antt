@@ -8,7 +8,7 @@ use borrow.Rule.Slice.PartMut.{putMid}
 use lib.ListN.{length, take, drop, length-take, length-drop}
 use lib.Seq.{length-take-le}
 use Rattle.frame.specs.Memory.{over}
-use Rattle.line.specs.DrainLaws.{copied}
+use Rattle.frame.specs.MemoryLaws.{copied}
 use Rattle.receive_line.specs.WholeLineLaws.{gathered-none, gathered}
 use Rattle.receive_line.proofs.gather.Statement.{statement}
 use Rattle.receive_line.proofs.gather.Tie as tie
