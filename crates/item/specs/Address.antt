@@ -31,8 +31,11 @@ lowBytes [] = 0
 lowBytes (b ∷ bs) = pick (eqb (lowBytes bs) 0) (pick (eqb b 0xAA) 0 1) (lowBytes bs + 1)
 
 -- One to five low bytes, and wildcard bytes above them.
+unfoldable pub isShortCount : ℕ → Bool
+isShortCount k = leb 1 k && leb k 5
+
 unfoldable pub hasShortForm : List ℕ → Bool
-hasShortForm address = leb 1 (lowBytes address) && leb (lowBytes address) 5
+hasShortForm address = isShortCount (lowBytes address)
 
 -- A short address as the reader's end sends it: with decimal low bytes.
 unfoldable pub isShort : List ℕ → Bool

@@ -15,7 +15,7 @@ use Rattle.item.specs.Decimal.{Decimal, allDecimal}
 use Rattle.item.specs.DecimalLaws.{all-decimal, decimal-all, decimal-take}
 use Rattle.item.specs.Same.{same}
 use Rattle.item.specs.SameLaws.{same-equal, equal-same}
-use Rattle.item.specs.Address.{broadcast, Good, isGood, lowBytes, hasShortForm, shortMatches, ShortFor}
+use Rattle.item.specs.Address.{broadcast, Good, isGood, lowBytes, isShortCount, hasShortForm, shortMatches, ShortFor}
 
 pub good : (address : List ℕ) → isGood address ≡ true → Good address
 unfolding isGood
@@ -65,7 +65,7 @@ low-count (x ∷ y ∷ xs) n h =
     rw (low-count (y ∷ xs) n (h .2), some, add-one)
 
 pub short-for : (address own : List ℕ) → length address ≡ 6 → shortMatches address own ≡ true → ShortFor address own
-unfolding shortMatches hasShortForm
+unfolding shortMatches hasShortForm isShortCount
 short-for address own six h =
     let parts = simp and-eq-true-iff at h in
     record {
@@ -78,7 +78,7 @@ short-for address own six h =
 
 -- A decimal address has no wildcard byte, so that only one number of low bytes fits.
 pub for-short : (address own : List ℕ) → length address ≡ 6 → length own ≡ 6 → Decimal own → ShortFor address own → shortMatches address own ≡ true
-unfolding shortMatches hasShortForm
+unfolding shortMatches hasShortForm isShortCount
 for-short address own six own-six decimal h =
     let long : length (take (h .k) own) ≡ h .k = length-take-le (h .k) own (omega arith) in
     let whole : address ≡ take (h .k) own ++ replicate (6 - h .k) 0xAA = cc (take-append-drop (h .k) address, h .lowest, h .higher) in

@@ -7,7 +7,7 @@ use Rattle.item.specs.Decimal.{isDecimal, firstBadFrom, firstBad, allDec
 use Rattle.item.specs.Same.{same}
 use Rattle.item.specs.Table.{itemOf, energyItem, readings, readOnly, writableItem, otherRows, found}
 use Rattle.item.specs.Content.{digitsAt, within, dateInRange, minutesInRange, notSet, settlementDayInRange, inRange, contentOf}
-use Rattle.item.specs.Address.{isGood, lowBytes, hasShortForm, shortMatches}
+use Rattle.item.specs.Address.{isGood, lowBytes, isShortCount, hasShortForm, shortMatches}
 use Rattle.item.specs.Reply.{controlCode, replyTo}
 use Rattle.item.specs.declared.table.Kind.the-variants.{Energy, Date, DemandPeriod, Address, FirstSettlementDay}
 use Rattle.item.specs.declared.table.Lookup.the-variants.{Listed, NotListed}
@@ -85,15 +85,15 @@ unfolding isGood allDecimal firstBad firstBadFrom isDecimal same
 broadcast-not-good = refl
 
 short-matches : shortMatches (0x01 ∷ 0x02 ∷ replicate 4 0xAA) (0x01 ∷ 0x02 ∷ 0x03 ∷ 0x00 ∷ 0x00 ∷ 0x00 ∷ []) ≡ true
-unfolding shortMatches hasShortForm lowBytes same
+unfolding shortMatches hasShortForm isShortCount lowBytes same
 short-matches = refl
 
 wildcard-no-zero : shortMatches (0x01 ∷ replicate 5 0x00) (0x01 ∷ 0x02 ∷ 0x03 ∷ 0x00 ∷ 0x00 ∷ 0x00 ∷ []) ≡ false
-unfolding shortMatches hasShortForm lowBytes same
+unfolding shortMatches hasShortForm isShortCount lowBytes same
 wildcard-no-zero = refl
 
 all-wildcards : shortMatches (replicate 6 0xAA) (0x01 ∷ replicate 5 0x00) ≡ false
-unfolding shortMatches hasShortForm lowBytes same
+unfolding shortMatches hasShortForm isShortCount lowBytes same
 all-wildcards = refl
 
 -- 91 and D1 answer 11.

@@ -2,12 +2,13 @@
 use Prim.Native.Nat.{ℕ, suc, _+_, _-_, _≤_, _<_}
 use mathlib.Core.Path.{_≡_, ap, sym, _∙_}
 use mathlib.Core.List.{List, [], _∷_, _++_}
-use mathlib.Core.Bool.{true, false}
+use mathlib.Core.Bool.{Bool, true, and-eq-true-iff}
 use native.Mathlib.Omega.{arith}
-use borrow.Author.Tests.{eq-eqb, ne-eqb, le-leb, lt-leb}
+use borrow.Author.Tests.{eq-eqb, ne-eqb, leb-true}
+use lib.Dec.{leb}
 use lib.ListN.{length, take, getD}
 use lib.Seq.{take-all, take-suc, length-take-le}
-use Rattle.item.specs.Address.{lowBytes, hasShortForm}
+use Rattle.item.specs.Address.{lowBytes, isShortCount, hasShortForm}
 
 -- A wildcard byte at the end does not count, and before any other byte all count.
 wildcard-last : (xs : List ℕ) (b : ℕ) → b ≡ 0xAA → lowBytes (xs ++ (b ∷ [])) ≡ lowBytes xs
@@ -53,16 +54,12 @@ module _ {address : List ℕ} {n count : ℕ} where
       let none : count ≡ 0 = omega arith in
       sym (c .so-far ∙ rw none)
 
--- An address whose number of low bytes is tested has a short form, or none.
-module _ (address : List ℕ) {k : ℕ} (counted : k ≡ lowBytes address) where
-  pub no-low-byte : k < 1 → hasShortForm address ≡ false
-  unfolding hasShortForm
-  no-low-byte h = rw (lt-leb 1 (lowBytes address) (omega arith))
+-- A short address has at most five low bytes.
+pub short-count-most : (k : ℕ) → isShortCount k ≡ true → k ≤ 5
+unfolding isShortCount
+short-count-most k h = leb-true k 5 (and-eq-true-iff (leb 1 k) (leb k 5) .0 h .1)
 
-  pub all-low-bytes : 1 ≤ k → 5 < k → hasShortForm address ≡ false
-  unfolding hasShortForm
-  all-low-bytes h m = rw (le-leb 1 (lowBytes address) (omega arith), lt-leb (lowBytes address) 5 (omega arith))
-
-  pub some-low-bytes : 1 ≤ k → k ≤ 5 → hasShortForm address ≡ true
-  unfolding hasShortForm
-  some-low-bytes h m = rw (le-leb 1 (lowBytes address) (omega arith), le-leb (lowBytes address) 5 (omega arith))
+-- The test of a count that was taken says whether the address has a short form.
+pub short-form : (address : List ℕ) {k : ℕ} {t : Bool} → k ≡ lowBytes address → isShortCount k ≡ t → hasShortForm address ≡ t
+unfolding hasShortForm
+short-form address e h = rw (← e) h

@@ -2,7 +2,7 @@
 use crate::decimal::all_decimal;
 use crate::same::same_bytes;
 ghost use mathlib.Core.Path.{_≡_};
-ghost use Rattle.item.specs.Address.{isGood, lowBytes, isShort, shortMatches};
+ghost use Rattle.item.specs.Address.{isGood, lowBytes, isShortCount, isShort, shortMatches};
 
 pub const BROADCAST: [u8; 6] = [0x99, 0x99, 0x99, 0x99, 0x99, 0x99];
 
@@ -33,15 +33,22 @@ pub fn low_bytes(address: [u8; 6]) -> usize
     0
 }
 
+// Whether so many low bytes, one to five, make an address short.
+fn is_short_count(k: usize) -> bool
+    ensures { λ r. ⌜ r ≡ isShortCount k ⌝ }
+{
+    if 1 <= k {
+        return k <= 5;
+    }
+    false
+}
+
 // Whether an address is short: one to five decimal low bytes, and wildcard bytes above them.
 pub fn is_short(address: [u8; 6]) -> bool
     ensures { λ r. ⌜ r ≡ isShort address ⌝ }
 {
     let k = low_bytes(address);
-    if k < 1 {
-        return false;
-    }
-    if 5 < k {
+    if !is_short_count(k) {
         return false;
     }
     all_decimal(&address[..k])
@@ -52,10 +59,7 @@ pub fn short_matches(address: [u8; 6], own: [u8; 6]) -> bool
     ensures { λ r. ⌜ r ≡ shortMatches address own ⌝ }
 {
     let k = low_bytes(address);
-    if k < 1 {
-        return false;
-    }
-    if 5 < k {
+    if !is_short_count(k) {
         return false;
     }
     same_bytes(&address[..k], &own[..k])
