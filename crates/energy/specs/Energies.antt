@@ -1,10 +1,9 @@
 -- The readings of one direction: thirteen rows of five. Row 0 is current, rows 1 to 12 are the last settlements; the columns are the
 -- total and rates 1 to 4.
 use Prim.Native.Nat.{ℕ}
-use mathlib.Core.Path.{_≡_}
 use mathlib.Core.List.{List, [], _∷_}
 use mathlib.Core.Bool.{Bool, true, _&&_}
-use lib.ListN.{length, getD, set, take, replicate}
+use lib.ListN.{getD, set, take, replicate}
 use Rattle.frame.specs.Memory.{pick}
 use Rattle.item.specs.Content.{within}
 use Rattle.energy.specs.Reading.{Reading, zeroReading, readingInRange, plusAmount}
