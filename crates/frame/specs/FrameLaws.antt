@@ -1,6 +1,6 @@
 -- Masking and unmasking undo each other, and a written frame taken apart gives back what it was made of.
 use Prim.Native.Nat.{ℕ, _+_, _≤_, _<_}
-use mathlib.Core.Path.{_≡_, refl, _∙_}
+use mathlib.Core.Path.{_≡_, refl, ap, _∙_}
 use mathlib.Core.List.{List, [], _∷_, _++_, map}
 use lib.ListN.{length, length-append, length-map}
 use Rattle.frame.specs.Frame.{Frame, Bytes, masked, unmasked, frameOf, addressOf, controlOf, lengthOf, dataOf}
@@ -32,6 +32,11 @@ masked-unmasked-all = undone-all unmasked masked masked-unmasked
 pub frame-length : (address : List ℕ) (control : ℕ) (field : List ℕ) → length address ≡ 6 → length (frameOf address control field) ≡ 12 + length field
 unfolding frameOf
 frame-length address control field h = rw (length-append, summed-length address control field h) (omega arith)
+
+-- The frame of data as they are meant has twelve bytes besides them.
+pub frame-for-length : (address : List ℕ) (control : ℕ) (meant : List ℕ) → length address ≡ 6 → length (frameFor address control meant) ≡ 12 + length meant
+unfolding frameFor
+frame-for-length address control meant six = frame-length address control (map masked meant) six ∙ ap (λ (n : ℕ). 12 + n) (length-map meant masked)
 
 -- What is written is a frame.
 pub frame-for : (address : List ℕ) (control : ℕ) (meant : List ℕ) → length address ≡ 6 → length meant ≤ 200 → Frame (frameFor address control meant)

@@ -75,7 +75,7 @@ Meaning x Open = Completion x
 Meaning x Neither = Unit
 
 -- Bytes joined, zeros, and the rest of bytes, are bytes.
-bytes-append : (a b : List ℕ) → Bytes a → Bytes b → Bytes (a ++ b)
+pub bytes-append : (a b : List ℕ) → Bytes a → Bytes b → Bytes (a ++ b)
 bytes-append [] b p q = q
 bytes-append (c ∷ a) b p q = (p .0, bytes-append a b (p .1) q)
 

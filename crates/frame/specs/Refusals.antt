@@ -17,6 +17,18 @@ notForThisMeter = 3
 abbrev pub silentByRule : ℕ
 silentByRule = 4
 
+-- A request that is not allowed; nothing changes.
+abbrev pub notAllowed : ℕ
+notAllowed = 5
+
+-- A frame that is not an answer to this request; nothing changes.
+abbrev pub notAnAnswer : ℕ
+notAnAnswer = 6
+
+-- An answer that is malformed; nothing changes.
+abbrev pub malformed : ℕ
+malformed = 7
+
 -- A bad address for a fresh meter, or a bad direction or rate; nothing changes.
 abbrev pub badArgument : ℕ
 badArgument = 8

@@ -1,5 +1,6 @@
 // Frames of DL/T 645-2007, as document 01, "A frame", has them: the checksum, the masking of data bytes, the recognition of
 // bytes as a frame, and the writing of a frame. Nothing here looks at what a control code or an address means.
+pub mod parts;
 pub mod refusal;
 
 ghost use mathlib.Core.Path.{_≡_};

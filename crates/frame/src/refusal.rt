@@ -8,6 +8,12 @@ pub const NOT_ONE_FRAME: u8 = 2;
 pub const NOT_FOR_THIS_METER: u8 = 3;
 // A frame that is answered by silence by rule; nothing changes.
 pub const SILENT_BY_RULE: u8 = 4;
+// A request that is not allowed; nothing changes.
+pub const NOT_ALLOWED: u8 = 5;
+// A frame that is not an answer to this request; nothing changes.
+pub const NOT_AN_ANSWER: u8 = 6;
+// An answer that is malformed; nothing changes.
+pub const MALFORMED: u8 = 7;
 // A bad address for a fresh meter, or a bad direction or rate; nothing changes.
 pub const BAD_ARGUMENT: u8 = 8;
 // A receiver or a meter is outside its ranges; nothing changes.

@@ -53,7 +53,7 @@ behind-low (x ∷ xs) = next (lowBytes xs) (behind-low xs) (eqb (lowBytes xs) 0)
         rw (add-one, one, e)
 
 -- Decimal bytes before wildcard bytes are the low bytes.
-low-count : (xs : List ℕ) (n : ℕ) → Decimal xs → lowBytes (xs ++ replicate n 0xAA) ≡ length xs
+pub low-count : (xs : List ℕ) (n : ℕ) → Decimal xs → lowBytes (xs ++ replicate n 0xAA) ≡ length xs
 unfolding lowBytes
 low-count [] zero h = refl
 low-count [] (suc n) h = rw (low-count [] n h)

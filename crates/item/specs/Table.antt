@@ -2,7 +2,7 @@
 -- number whose highest byte is DI3 and whose lowest is DI0.
 use Prim.Native.Nat.{ℕ, _*_, _/_, _%_}
 use mathlib.Core.List.{List, [], _∷_}
-use mathlib.Core.Bool.{true, false}
+use mathlib.Core.Bool.{Bool, true, false}
 use lib.Dec.{leb, eqb}
 use Rattle.frame.specs.Memory.{pick}
 use Rattle.item.specs.declared.table.Kind.{Kind}
@@ -72,3 +72,8 @@ itemOf identifier =
     (pick (eqb (identifier / 65536) 2)
     (energyItem 1 (identifier / 256 % 256) (identifier % 256))
     (found identifier otherRows))
+
+-- A value of so many bytes has the length of what was looked up; of an identifier that is not listed none has.
+abbrev pub hasLength : Lookup → ℕ → Bool
+hasLength (Listed item) n = eqb n (item .length)
+hasLength NotListed n = false

@@ -7,6 +7,7 @@ pub mod BeginsLaws
 pub mod ScanLaws
 pub mod TakenLaws
 pub mod ScanCertain
+pub mod Closed
 pub mod Receiver
 pub mod CallLaws
 pub mod Demand3

@@ -14,7 +14,7 @@ use Rattle.frame.specs.RecognitionLaws.{Completion, open-completes, frame-least
 use Rattle.line.specs.TakenLaws.{Takes, Read, reads, begins-frame, begins-whole, whole-passed}
 
 -- The scan of symbols with which a line begins.
-scan-reads : (x more : List Symbol) (taken : Choice) → Keeps (x ++ more) taken → Read (x ++ more) more taken 0 (scan 0 0 x)
+pub scan-reads : (x more : List Symbol) (taken : Choice) → Keeps (x ++ more) taken → Read (x ++ more) more taken 0 (scan 0 0 x)
 scan-reads x more taken keeps = reads (x ++ more) more taken keeps 0 0 0 x refl (omega arith) refl (λ g t. inr (omega arith))
 
 -- What the scan finds is taken by every choice that keeps the rule, however the line goes on.
@@ -29,7 +29,7 @@ all-bytes [] h = tt
 all-bytes (b ∷ bs) h = (h .0, all-bytes bs (h .1))
 
 -- A frame that stands in symbols ends within them.
-stands-within : (x : List Symbol) (place : ℕ) (f : List ℕ) → Stands x place f → place + length f ≤ length x
+pub stands-within : (x : List Symbol) (place : ℕ) (f : List ℕ) → Stands x place f → place + length f ≤ length x
 stands-within x place f s =
     omega (arith, frame-least (s .whole), simp (length-take, length-drop, length-map) at (ap length (s .there)))
 

@@ -14,6 +14,7 @@ use Rattle.item.specs.Content.{contentOf, isAllowed, within}
 use Rattle.item.specs.Decimal.{allDecimal}
 use Rattle.item.specs.Reply.{replyTo, otherError, noSuchData, notAuthorised}
 use Rattle.item.specs.Same.{same}
+use Rattle.item.specs.Table.{hasLength}
 use Rattle.item.specs.declared.table.Lookup.{Lookup}
 use Rattle.item.specs.declared.table.Lookup.the-variants.{Listed, NotListed}
 use Rattle.energy.specs.Energies.{Rows}
@@ -63,10 +64,6 @@ isListed NotListed = false
 abbrev pub isWritable : Lookup → Bool
 isWritable (Listed item) = item .writable
 isWritable NotListed = false
-
-abbrev pub hasLength : Lookup → ℕ → Bool
-hasLength (Listed item) n = eqb n (item .length)
-hasLength NotListed n = false
 
 abbrev pub hasContent : Lookup → List ℕ → Bool
 hasContent (Listed item) value = isAllowed (contentOf (item .kind) value)

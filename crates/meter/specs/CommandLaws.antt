@@ -12,7 +12,7 @@ use Rattle.item.specs.ContentLaws.{Range, content-allowed}
 use Rattle.item.specs.Decimal.{Decimal}
 use Rattle.item.specs.Same.{same}
 use Rattle.item.specs.SameLaws.{same-equal, equal-same}
-use Rattle.item.specs.Table.{itemOf}
+use Rattle.item.specs.Table.{itemOf, hasLength}
 use Rattle.frame.specs.MemoryLaws.{pick-cases}
 use Rattle.item.specs.declared.content.Content.{Content}
 use Rattle.item.specs.declared.content.Content.the-variants.{Allowed, NotDecimal, OutOfRange}
@@ -21,7 +21,7 @@ use Rattle.item.specs.declared.table.Lookup.{Lookup}
 use Rattle.item.specs.declared.table.Lookup.the-variants.{Listed, NotListed}
 use Rattle.meter.specs.Meter.{passwordAt}
 use Rattle.meter.specs.Request.{commandOf, controlFor, identifierOf, itemAsked, levelOf, passwordOf, writtenValue}
-use Rattle.meter.specs.Answer.{Treatment, Failure, errorByte, silence, Check, failed, firstFailing, isListed, isWritable, hasLength, hasContent, authorised, checksOf}
+use Rattle.meter.specs.Answer.{Treatment, Failure, errorByte, silence, Check, failed, firstFailing, isListed, isWritable, hasContent, authorised, checksOf}
 use Rattle.meter.specs.declared.Meter.{Meter}
 use Rattle.meter.specs.declared.request.Command.{Command}
 use Rattle.meter.specs.declared.request.Command.the-variants.{ReadData, ReadAddress, WriteData, WriteAddress, ChangePassword}

@@ -7,7 +7,7 @@ use native.Mathlib.Omega.{arith}
 use lib.ListN.{length, take, drop, length-map}
 use lib.Seq.{take-at, drop-at}
 use Rattle.frame.specs.Frame.{Frame, addressOf, controlOf, dataOf, masked}
-use Rattle.frame.specs.FrameLaws.{frame-length, frame-for, address-back}
+use Rattle.frame.specs.FrameLaws.{frame-for, frame-for-length, address-back}
 use Rattle.frame.specs.Writing.{frameFor}
 use Rattle.item.specs.Reply.{replyTo}
 use Rattle.energy.specs.Energies.{Rows}
@@ -29,12 +29,6 @@ pub record RepliesFromOwn (bytes : List ℕ) (m : Meter) (forward reverse : Rows
   pub new : controlOf bytes ≡ 0x15 → answered bytes m forward reverse memory .answer .meter .address ≡ dataOf bytes
   pub beyond : drop n (answered bytes m forward reverse memory .memory) ≡ drop n memory
 
--- A written frame has twelve bytes besides its data.
-written-length : (address : List ℕ) (control : ℕ) (meant : List ℕ) → length address ≡ 6 → length (frameFor address control meant) ≡ 12 + length meant
-unfolding frameFor
-written-length address control meant six =
-    frame-length address control (map masked meant) six ∙ ap (λ (n : ℕ). 12 + n) (length-map meant masked)
-
 -- A reply of data that fit, from an address that the meter then has.
 module _ (bytes : List ℕ) (m : Meter) (forward reverse : Rows) (memory : List ℕ) (n : ℕ)
     (h : answered bytes m forward reverse memory .answer .answer ≡ Replied n) where
@@ -46,7 +40,7 @@ module _ (bytes : List ℕ) (m : Meter) (forward reverse : Rows) (memory : List 
       let f : List ℕ = frameFor (after .address) control meant in
       let said : Replied (12 + length meant) ≡ Replied n = rw e at h in
       let size : 12 + length meant ≡ n = cc in
-      let long : length f ≡ n = written-length (after .address) control meant six ∙ size in
+      let long : length f ≡ n = frame-for-length (after .address) control meant six ∙ size in
       let front : take n (answered bytes m forward reverse memory .memory) ≡ f = rw e (take-at f (drop (length f) memory) n long) in
       record {
         whole = rw front (frame-for (after .address) control meant six most);

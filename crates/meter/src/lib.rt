@@ -173,8 +173,8 @@ impl Meter {
         }
     }
 
-    // Whether a meter and its readings are within document 01's ranges.
-    fn is_within_ranges(self, forward: Rows, reverse: Rows) -> bool
+    // Whether a meter and its readings are within document 01's ranges: every operation refuses with 16 those that are not.
+    pub fn is_within_ranges(self, forward: Rows, reverse: Rows) -> bool
         ensures { λ r. ⌜ r ≡ withinRanges self forward reverse ⌝ }
     {
         let address = self.address;

@@ -7,9 +7,9 @@ use borrow.Author.Tests.{not-true, not-false}
 use lib.ListN.{length, take, getD}
 use lib.Seq.{length-take-le}
 use Rattle.frame.specs.Frame.{addressOf, controlOf, lengthOf, dataOf}
+use Rattle.frame.specs.PartsLaws.{one-spans, address-field, data-fits, data-front}
 use Rattle.meter.specs.Request.{commandOf, addressed}
 use Rattle.meter.specs.Answer.{treated}
-use Rattle.meter.specs.AnswerSteps.{one-spans, data-fits, data-front}
 use Rattle.meter.specs.declared.request.Asked.the-variants.{Known}
 use Rattle.meter.proofs.treat.treat.Statement.{statement}
 use Rattle.meter.proofs.treat.treat.Tie as tie
@@ -25,7 +25,8 @@ known c = sym (c .before .before .before .command-of .ensures) ∙ c .before .co
 -- whether the frame is for this meter
 addressee : (c : tie.After-is-addressed) → let k = c .before .before .before in
     addressed (k .before .command .given .0 .0) (addressOf (at-start k .args .bytes .now)) (at-start k .args .meter .address) ≡ c .is-addressed .result
-addressee c = rw (← c .before .address-of .ensures) (sym (c .is-addressed .ensures))
+addressee c =
+    rw (← address-field _ (at-start (c .before .before .before) .pre), ← c .before .address-of .ensures) (sym (c .is-addressed .ensures))
 
 abbrev entry : tie.After-data-of → tie.Start
 entry c = at-start (c .before .before .before .before .before)

@@ -13,7 +13,7 @@ use types.Run.{OneOf}
 use denote.Enum.Declared.{tagOf}
 use lib.ListN.{length, take, drop}
 use Rattle.item.specs.Content.{within, isAllowed}
-use Rattle.item.specs.Table.{itemOf}
+use Rattle.item.specs.Table.{itemOf, hasLength}
 use Rattle.item.specs.declared.content.Content.{Content}
 use Rattle.item.specs.declared.content.Content.the-variants.{Allowed, NotDecimal, OutOfRange}
 use Rattle.item.specs.declared.table.Item.{Item}
@@ -21,7 +21,7 @@ use Rattle.item.specs.declared.table.Lookup.the-variants.{Listed}
 use Rattle.item.proofs.content.Content.{the-type}
 use Rattle.meter.specs.Meter.{noted, withValue}
 use Rattle.meter.specs.Request.{identifierOf, itemAsked, levelOf, passwordOf, operatorOf, writtenValue}
-use Rattle.meter.specs.Answer.{isListed, isWritable, hasLength, hasContent, authorised, checksOf, replyData, meterAfter}
+use Rattle.meter.specs.Answer.{isListed, isWritable, hasContent, authorised, checksOf, replyData, meterAfter}
 use Rattle.meter.specs.Checks.{checkOf}
 use Rattle.meter.specs.ChecksLaws.{check-true, check-false, Passed, all-left, check-holds, check-fails, no-check-left, write-parsed, write-wrong}
 use Rattle.meter.specs.PlaceLaws.{Writes, target-writable}

@@ -1,0 +1,54 @@
+-- Each test is the next condition of a read, and the first that does not hold refuses.
+use mathlib.Core.Path.{_≡_, sym, _∙_}
+use mathlib.Core.Bool.{true}
+use borrow.Author.Needs.{needs}
+use borrow.Author.Tests.{not-true, not-false}
+use Rattle.item.specs.Table.{itemOf}
+use Rattle.item.specs.declared.table.Lookup.{Lookup}
+use Rattle.reader.specs.Allowed.{addressAllowed, firstCause, conditionsOf}
+use Rattle.reader.proofs.allowed.read_admission.Statement.{statement}
+use Rattle.reader.proofs.allowed.read_admission.Tie as tie
+
+is-readable-requires : tie.Need-is-readable-requires
+is-readable-requires c κs = search needs
+
+returns : tie.Need-returns
+unfolding firstCause conditionsOf
+returns c = rw (sym (c .before .is-readable .ensures) ∙ not-true _ (c .if1 .taken))
+
+item-of-requires : tie.Need-item-of-requires
+item-of-requires c κs = search needs
+
+-- the address is allowed
+readable : (c : tie.Else1) → addressAllowed (c .before .before .before .args .request .address) ≡ true
+readable c = sym (c .before .is-readable .ensures) ∙ not-false _ (c .if1 .left)
+
+-- what was looked up
+looked-up : (c : tie.After-item-of) (r : Lookup) → c .item-of .result ≡ r → itemOf (c .before .before .before .before .args .request .identifier) ≡ r
+looked-up c r e = sym (c .item-of .ensures) ∙ e
+
+enum-told : tie.Need-enum-told
+enum-told c = search needs
+
+enum-told-2 : tie.Need-enum-told-2
+enum-told-2 c = search needs
+
+returns-2 : tie.Need-returns-2
+unfolding firstCause conditionsOf
+returns-2 c = let at-item = c .before .before in rw (readable (at-item .before), looked-up at-item _ (c .enum-told2 .given .1))
+
+returns-3 : tie.Need-returns-3
+unfolding firstCause conditionsOf
+returns-3 c = let at-item = c .before .before in rw (readable (at-item .before), looked-up at-item _ (c .enum-told .given .1))
+
+pub read-admission-spec : {M : Type 1} → statement M
+read-admission-spec =
+    tie.close
+    (tie.spec
+    is-readable-requires
+    returns
+    item-of-requires
+    enum-told
+    enum-told-2
+    returns-2
+    returns-3)

@@ -1,0 +1,62 @@
+-- Each test is the next condition of a write, and the first that does not hold refuses; of a listed item the rest decides.
+use mathlib.Core.Path.{_≡_, sym, _∙_}
+use mathlib.Core.Bool.{true}
+use borrow.Author.Needs.{needs}
+use borrow.Author.Tests.{not-true, not-false}
+use Rattle.item.specs.Address.{isGood}
+use Rattle.item.specs.Table.{itemOf}
+use Rattle.item.specs.declared.table.Lookup.{Lookup}
+use Rattle.reader.specs.Allowed.{firstCause, conditionsOf}
+use Rattle.reader.proofs.allowed.write_admission.Statement.{statement}
+use Rattle.reader.proofs.allowed.write_admission.Tie as tie
+
+is-good-requires : tie.Need-is-good-requires
+is-good-requires c κs = search needs
+
+returns : tie.Need-returns
+unfolding firstCause conditionsOf
+returns c = rw (sym (c .before .is-good .ensures) ∙ not-true _ (c .if1 .taken))
+
+item-of-requires : tie.Need-item-of-requires
+item-of-requires c κs = search needs
+
+-- the address is good
+good : (c : tie.Else1) → isGood (c .before .before .before .args .request .address) ≡ true
+good c = sym (c .before .is-good .ensures) ∙ not-false _ (c .if1 .left)
+
+-- what was looked up
+looked-up : (c : tie.After-item-of) (r : Lookup) → c .item-of .result ≡ r → itemOf (c .before .before .before .before .args .request .identifier) ≡ r
+looked-up c r e = sym (c .item-of .ensures) ∙ e
+
+enum-known-item : tie.Need-enum-known-item
+enum-known-item c = search needs
+
+enum-told : tie.Need-enum-told
+enum-told c = search needs
+
+returns-2 : tie.Need-returns-2
+unfolding firstCause conditionsOf
+returns-2 c = let at-item = c .before .before in rw (good (at-item .before), looked-up at-item _ (c .enum-told .given .1))
+
+value-admission-requires : tie.Need-value-admission-requires
+value-admission-requires c κs = search needs
+
+returns-3 : tie.Need-returns-3
+unfolding firstCause conditionsOf
+returns-3 c =
+    let at-match = c .before .before in
+    let at-item = at-match .before .before in
+    rw (good (at-item .before), looked-up at-item _ (at-match .item .given .1)) (c .value-admission .ensures)
+
+pub write-admission-spec : {M : Type 1} → statement M
+write-admission-spec =
+    tie.close
+    (tie.spec
+    is-good-requires
+    returns
+    item-of-requires
+    enum-known-item
+    enum-told
+    returns-2
+    value-admission-requires
+    returns-3)

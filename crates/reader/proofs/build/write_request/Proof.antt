@@ -1,0 +1,153 @@
+-- Four stores put the four FE at the front. There is room for the frame behind them, so it is written and the other way out is not taken.
+use Prim.Native.Nat.{ℕ, _+_, _-_, _≤_}
+use mathlib.Core.Path.{_≡_, ap, sym, _∙_}
+use mathlib.Core.List.{List, _++_}
+use mathlib.Core.Logic.{⊎-elim}
+use native.Mathlib.Omega.{arith}
+use borrow.Author.Needs.{needs}
+use lib.ListN.{length, take, drop, set, length-set}
+use lib.Seq.{length-take-le}
+use Rattle.frame.specs.Memory.{over}
+use Rattle.frame.specs.MemoryLaws.{over-length, run-from}
+use Rattle.frame.specs.Writing.{frameFor}
+use Rattle.frame.specs.declared.Written.the-variants.{Length}
+use Rattle.reader.specs.Building.{wakeUp}
+use Rattle.frame.specs.FrameLaws.{frame-for-length}
+use Rattle.reader.specs.BuildingLaws.{written-length, written-over}
+use Rattle.reader.proofs.build.write_request.Statement.{statement}
+use Rattle.reader.proofs.build.write_request.Tie as tie
+
+-- the arrays' lengths
+six : (s : tie.Start) → length (s .args .address) ≡ 6
+six s = search needs
+
+whole : (s : tie.Start) → length (s .args .payload .meant) ≡ 50
+whole s = search needs
+
+-- the data
+abbrev meant : tie.Start → List ℕ
+meant s = take (s .args .payload .count) (s .args .payload .meant)
+
+fits : (s : tie.Start) → s .args .payload .count ≤ length (s .args .payload .meant)
+fits s = omega (arith, whole s, s .pre .0)
+
+size : (s : tie.Start) → length (meant s) ≡ s .args .payload .count
+size s = length-take-le _ _ (fits s)
+
+few : (s : tie.Start) → length (meant s) ≤ 50
+few s = omega (arith, size s, s .pre .0)
+
+-- the memory behind the four stores
+abbrev woken : tie.Start → List ℕ
+woken s = set (set (set (set (s .args .out .now) 0 0xFE) 1 0xFE) 2 0xFE) 3 0xFE
+
+awake : (s : tie.Start) → woken s ≡ over wakeUp (s .args .out .now)
+awake s = run-from wakeUp (s .args .out .now) 0 (omega (arith, s .pre .1))
+
+abbrev start-of : tie.After-write-frame → tie.Start
+start-of c = c .before .before .before .before .before
+
+-- the frame is written
+answered : (c : tie.After-write-frame) → c .write-frame .result ≡ Length (12 + length (meant (start-of c)))
+answered c =
+    let s = start-of c in
+    written-length (s .args .address) (s .args .control) (meant s) (s .args .out .now) (six s) (few s) (s .pre .1) (woken s) (awake s) _ _
+    (c .write-frame .ensures)
+
+-- and stands behind the four FE
+abbrev left : tie.After-write-frame → List ℕ
+left c = let o = woken (start-of c) in take 4 o ++ (c .write-frame .last .1 .1 .1 .0 ++ drop (length o - 4) (drop 4 o))
+
+stands : (c : tie.After-write-frame) →
+    let a = start-of c .args in
+    left c ≡ over (wakeUp ++ frameFor (a .address) (a .control) (meant (start-of c))) (a .out .now)
+stands c =
+    let s = start-of c in
+    written-over (s .args .address) (s .args .control) (meant s) (s .args .out .now) (six s) (few s) (s .pre .1) (woken s) (awake s) _ _
+    (c .write-frame .ensures)
+
+kept : (c : tie.After-write-frame) → length (left c) ≡ length (start-of c .args .out .now)
+kept c =
+    let s = start-of c in
+    let framed = frame-for-length (s .args .address) (s .args .control) (meant s) (six s) in
+    ap length (stands c)
+    ∙ over-length (wakeUp ++ frameFor (s .args .address) (s .args .control) (meant s)) (s .args .out .now) (omega (arith, framed, few s, s .pre .1))
+
+slice-write-out : tie.Need-slice-write-out
+slice-write-out c = search needs
+
+slice-write-out-2 : tie.Need-slice-write-out-2
+slice-write-out-2 c = simp length-set (omega arith)
+
+slice-write-out-3 : tie.Need-slice-write-out-3
+slice-write-out-3 c = simp length-set (omega arith)
+
+slice-write-out-4 : tie.Need-slice-write-out-4
+slice-write-out-4 c = simp length-set (omega arith)
+
+array-share-prefix-meant : tie.Need-array-share-prefix-meant
+array-share-prefix-meant c = fits (c .before .before)
+
+slice-aggregate-write-frame : tie.Need-slice-aggregate-write-frame
+slice-aggregate-write-frame c = sym (size (c .before .before .before))
+
+sub-write-frame : tie.Need-sub-write-frame
+sub-write-frame c = simp length-set (omega arith)
+
+part-write-frame-start : tie.Need-part-write-frame-start
+part-write-frame-start c = simp length-set (omega arith)
+
+part-write-frame-end : tie.Need-part-write-frame-end
+part-write-frame-end c = search needs
+
+write-frame-requires : tie.Need-write-frame-requires
+write-frame-requires c κs = search needs
+
+enum-known-n : tie.Need-enum-known-n
+enum-known-n c = search needs
+
+same-length : tie.Need-same-length
+same-length c = kept (c .before .before .before)
+
+returns : tie.Need-returns
+returns c = absurd (⊎-elim (λ e. omega arith) (λ e. omega arith) (rw (answered (c .before .before .before)) at (c .match .keys2)))
+
+-- the length that was given
+given : (c : tie.After-known-told) → c .before .n .given .0 .0 ≡ 12 + start-of (c .before .before .before .before .before) .args .payload .count
+given c =
+    let w = c .before .before .before .before .before in
+    let same : c .before .n .given .0 .0 ≡ 12 + length (meant (start-of w)) = cc (c .before .n .given .1, answered w) in
+    same ∙ ap (λ (k : ℕ). 12 + k) (size (start-of w))
+
+add-result : tie.Need-add-result
+add-result c = omega (arith, given c, start-of (c .before .before .before .before .before) .pre .0)
+
+same-length-2 : tie.Need-same-length-2
+same-length-2 c = kept (c .before .before .before .before .before)
+
+returns-2 : tie.Need-returns-2
+returns-2 c =
+    let w = c .before .before .before .before .before in
+    let total : 4 + c .before .n .given .0 .0 ≡ 16 + start-of w .args .payload .count = omega (arith, given c) in
+    rw (total, stands w)
+
+pub write-request-spec : {M : Type 1} → statement M
+write-request-spec =
+    tie.close
+    (tie.spec
+    slice-write-out
+    slice-write-out-2
+    slice-write-out-3
+    slice-write-out-4
+    array-share-prefix-meant
+    slice-aggregate-write-frame
+    sub-write-frame
+    part-write-frame-start
+    part-write-frame-end
+    write-frame-requires
+    enum-known-n
+    same-length
+    returns
+    add-result
+    same-length-2
+    returns-2)

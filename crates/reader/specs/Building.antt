@@ -1,0 +1,73 @@
+-- Document 01, "The reader's end": the bytes of a request, and what building one answers.
+use Prim.Native.Nat.{ℕ, _/_, _%_, _≤_}
+use mathlib.Core.List.{List, [], _∷_, _++_}
+use lib.ListN.{length, replicate}
+use lib.Dec.{leb}
+use Rattle.frame.specs.Memory.{Outcome, outcome, over, pick}
+use Rattle.frame.specs.Refusals.{shortMemory, notAllowed}
+use Rattle.frame.specs.Writing.{frameFor}
+use Rattle.item.specs.Address.{wildcards}
+use Rattle.reader.specs.Allowed.{requestValue, isAllowed}
+use Rattle.reader.specs.declared.Action.{Action}
+use Rattle.reader.specs.declared.Action.the-variants.{ReadData, ReadAddress, WriteData}
+use Rattle.reader.specs.declared.Request.{Request}
+use Rattle.reader.specs.declared.build.Payload.{Payload}
+use Rattle.reader.specs.declared.Built.{Built}
+use Rattle.reader.specs.declared.Built.the-variants.{Length, Refused}
+
+-- Four FE.
+abbrev pub wakeUp : List ℕ
+wakeUp = replicate 4 0xFE
+
+-- The control code of each action.
+abbrev pub controlFor : Action → ℕ
+controlFor ReadData = 0x11
+controlFor ReadAddress = 0x13
+controlFor WriteData = 0x14
+
+-- The identifier's four bytes, DI0 first.
+unfoldable pub identifierBytes : ℕ → List ℕ
+identifierBytes identifier =
+    identifier % 256 ∷ identifier / 256 % 256 ∷ identifier / 65536 % 256 ∷ identifier / 16777216 % 256 ∷ []
+
+-- The address field: six AA to read an address.
+abbrev pub sentTo : Action → List ℕ → List ℕ
+sentTo ReadData address = address
+sentTo ReadAddress address = wildcards
+sentTo WriteData address = address
+
+-- The data: of 11 the identifier; of 14 identifier, level, password, operator code, value.
+unfoldable pub sentData : Action → Request → List ℕ
+sentData ReadData request = identifierBytes (request .identifier)
+sentData ReadAddress request = []
+sentData WriteData request =
+    identifierBytes (request .identifier)
+    ++ (request .level ∷ (request .password ++ (request .operator ++ requestValue request)))
+
+-- The data at the front of an array of 50 that is zero behind them, with their length.
+unfoldable pub payloadOf : List ℕ → Payload
+payloadOf meant = record { meant = over meant (replicate 50 0); count = length meant }
+
+-- A value to be written has at most 38 bytes.
+abbrev pub Counts : Action → Request → Type 0
+Counts ReadData request = Unit
+Counts ReadAddress request = Unit
+Counts WriteData request = request .count ≤ 38
+
+-- The frame of a request.
+unfoldable pub requestFrame : Request → List ℕ
+requestFrame request =
+    frameFor (sentTo (request .action) (request .address)) (controlFor (request .action)) (sentData (request .action) request)
+
+-- A request is built with four FE in front.
+unfoldable pub requestBytes : Request → List ℕ
+requestBytes request = wakeUp ++ requestFrame request
+
+-- The outcome of building: 1 under 66 bytes of memory, then 5 for a request that is not allowed, else its bytes over the front.
+unfoldable pub built : Request → List ℕ → Outcome Built
+built request m =
+    pick (leb 66 (length m))
+    (pick (isAllowed request)
+    (outcome (Length (length (requestBytes request))) (over (requestBytes request) m))
+    (outcome (Refused notAllowed) m))
+    (outcome (Refused shortMemory) m)

@@ -1,0 +1,6 @@
+pub mod Allowed
+pub mod AllowedLaws
+pub mod Building
+pub mod BuildingLaws
+pub mod Judging
+pub mod JudgingLaws

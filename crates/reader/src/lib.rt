@@ -1,0 +1,153 @@
+// The reader's end of DL/T 645-2007: document 01, "The reader's end". One request value is built into bytes for the line, and
+// a reply is judged against the same value.
+mod allowed;
+mod build;
+mod judge;
+
+use allowed::Admission;
+use allowed::admit;
+use build::control_of;
+use build::payload_of;
+use build::sent_to;
+use build::write_request;
+use frame::parts::address_of;
+use frame::parts::data_of;
+use frame::refusal::NOT_ALLOWED;
+use frame::refusal::NOT_AN_ANSWER;
+use frame::refusal::NOT_ONE_FRAME;
+use frame::refusal::SHORT_MEMORY;
+use judge::answers_from;
+use judge::is_error;
+use judge::is_normal;
+use judge::judge_data;
+use judge::value_start;
+ghost use mathlib.Core.Path.{_≡_};
+ghost use mathlib.Core.Bool.{true};
+ghost use lib.ListN.{drop};
+ghost use Rattle.frame.specs.Memory.{outcome};
+ghost use Rattle.frame.specs.Recognition.{exactlyOne};
+ghost use Rattle.reader.specs.Building.{built};
+ghost use Rattle.reader.specs.Judging.{isAnswer, Fits, written, judged};
+
+// What a request asks for.
+pub enum Action {
+    // 11
+    ReadData,
+    // 13
+    ReadAddress,
+    // 14
+    WriteData,
+}
+
+// A request. What its action does not use is ignored.
+pub struct Request {
+    pub action: Action,
+    // A good address, or a short one for a read of data.
+    pub address: [u8; 6],
+    // DI3 highest.
+    pub identifier: u32,
+    pub level: u8,
+    pub password: [u8; 3],
+    pub operator: [u8; 4],
+    // The value to be written is the first `count` of these bytes.
+    pub value: [u8; 38],
+    pub count: usize,
+}
+
+// The answer to the building of a request.
+pub enum Built {
+    // The length of the request that stands at the front of the output buffer, wake-up bytes included.
+    Length(usize),
+    // A refusal, by document 01's number: nothing written.
+    Refused(u8),
+}
+
+// The answer to the judging of a reply.
+pub enum Judgement {
+    // The length of the value that stands at the front of the output buffer: 0 for a write that was accepted.
+    Value(usize),
+    // The byte of an error reply; nothing written.
+    Error(u8),
+    // A refusal, by document 01's number: nothing written.
+    Refused(u8),
+}
+
+// Whether a frame's control and address are an answer to a request.
+fn is_answer(request: Request, bytes: &[u8]) -> bool
+    requires { ⌜ exactlyOne (now bytes) ≡ true ⌝ }
+    ensures { λ r. ⌜ r ≡ isAnswer request (now (bytes .entry)) ⌝ }
+{
+    let action = request.action;
+    let control = bytes[8];
+    if !is_normal(action, control) {
+        if !is_error(action, control) {
+            return false;
+        }
+    }
+    let address = request.address;
+    answers_from(action, address, address_of(bytes))
+}
+
+// Writes the value of a good reply to the front of the output buffer.
+fn deliver(decided: Judgement, start: usize, meant: &[u8], out: &mut [u8]) -> Judgement
+    requires { ⌜ Fits decided start (now meant) (now out) ⌝ }
+    ensures { λ r. ⌜ outcome r (now (out .exit)) ≡ outcome decided (written decided (drop start (now (meant .entry))) (now (out .entry))) ⌝ }
+{
+    match decided {
+        Judgement::Value(n) => {
+            bytes::copy(&meant[start..], out);
+            Judgement::Value(n)
+        }
+        Judgement::Error(byte) => Judgement::Error(byte),
+        Judgement::Refused(refusal) => Judgement::Refused(refusal),
+    }
+}
+
+impl Request {
+    // Writes the request, with four FE in front, to the front of the output buffer, which stays as it was beyond it. Refused
+    // with 1 under 66 bytes, then with 5.
+    pub fn build(self, out: &mut [u8]) -> Built
+        ensures { λ r. ⌜ outcome r (now (out .exit)) ≡ built self (now (out .entry)) ⌝ }
+    {
+        if out.len() < 66 {
+            return Built::Refused(SHORT_MEMORY);
+        }
+        let Admission::Allowed = admit(self) else {
+            return Built::Refused(NOT_ALLOWED);
+        };
+        let action = self.action;
+        let address = self.address;
+        let n = write_request(
+            sent_to(action, address),
+            control_of(action),
+            payload_of(self),
+            out,
+        );
+        Built::Length(n)
+    }
+
+    // Judges a reply to the request: its value goes to the front of the output buffer, which stays as it was beyond it.
+    // Refused with 1 under 196 bytes, 5, 2, and then with 6, 7, 6, 7, as document 01 says.
+    pub fn judge(self, bytes: &[u8], out: &mut [u8]) -> Judgement
+        ensures { λ r. ⌜ outcome r (now (out .exit)) ≡ judged self (now (bytes .entry)) (now (out .entry)) ⌝ }
+    {
+        if out.len() < 196 {
+            return Judgement::Refused(SHORT_MEMORY);
+        }
+        let Admission::Allowed = admit(self) else {
+            return Judgement::Refused(NOT_ALLOWED);
+        };
+        if !frame::is_frame(bytes) {
+            return Judgement::Refused(NOT_ONE_FRAME);
+        }
+        if !is_answer(self, bytes) {
+            return Judgement::Refused(NOT_AN_ANSWER);
+        }
+        let action = self.action;
+        let meant = data_of(bytes);
+        let length = bytes[9] as usize;
+        let from = address_of(bytes);
+        let decided = judge_data(action, self.identifier, bytes[8], from, &meant[..length]);
+        deliver(decided, value_start(action), &meant[..length], out)
+    }
+}
