@@ -1,0 +1,187 @@
+-- Demand 1 of the letter, gathered: a refusal changes neither a receiver, nor a meter, nor its readings, nor any memory lent. Each operation's
+-- contract equates what it answers and leaves with the definition that stands here for it.
+use Prim.Native.Nat.{ℕ}
+use mathlib.Core.Path.{_≡_, refl, sym}
+use mathlib.Core.List.{List}
+use mathlib.Core.Bool.{Bool, true, false, _&&_}
+use native.Mathlib.Omega.{arith}
+use lib.ListN.{length}
+use lib.Dec.{leb, eqb}
+use Rattle.frame.specs.Memory.{Outcome, pick}
+use Rattle.frame.specs.Refusals.{badArgument}
+use Rattle.frame.specs.MemoryLaws.{pick-cases}
+use Rattle.item.specs.Address.{isGood}
+use Rattle.energy.specs.Energies.{Rows, isRate}
+use Rattle.line.specs.Line.{Symbol}
+use Rattle.line.specs.Receiver.{withinRange, refused, delivered, called}
+use Rattle.line.specs.declared.Receiver.{Receiver}
+use Rattle.line.specs.declared.Received.{Received}
+use Rattle.line.specs.declared.Answer.the-variants as receiving
+use Rattle.meter.specs.Meter.{freshMeter, withinRanges}
+use Rattle.meter.specs.Host.{energiesOf, created, keySet, pulsedBy, settledBy}
+use Rattle.meter.specs.Answer.{answered}
+use Rattle.meter.specs.Answer.{delivered as replied}
+use Rattle.meter.specs.AnswerLaws.{Answers, refuses, errs, carries, answers, not-replied}
+use Rattle.meter.specs.declared.Meter.{Meter}
+use Rattle.meter.specs.declared.KeySet.{KeySet}
+use Rattle.meter.specs.declared.Counted.{Counted}
+use Rattle.meter.specs.declared.HostAnswer.the-variants as host
+use Rattle.meter.specs.declared.FrameAnswer.{FrameAnswer}
+use Rattle.meter.specs.declared.FrameAnswer.the-variants as frames
+use Rattle.reader.specs.Allowed.{isAllowed}
+use Rattle.reader.specs.Building.{requestFrame, built}
+use Rattle.reader.specs.Judging.{judged}
+use Rattle.reader.specs.declared.Request.{Request}
+use Rattle.reader.specs.declared.Built.{Built}
+use Rattle.reader.specs.declared.Built.the-variants as building
+use Rattle.reader.specs.declared.Judgement.the-variants as judging
+use Rattle.exchange.specs.Exchange.{Memories, ExchangeOutcome, enough, concludedBy, concluded, carried, exchanged}
+use Rattle.exchange.specs.declared.ExchangeAnswer.the-variants as exchanging
+
+-- A refusal, by whatever number, changes nothing.
+pub record RefusalsChangeNothing : Type 0 where
+  -- The receiver, with a byte or a silence.
+  pub receiver : (s : Symbol) (r : Receiver) (m : List ℕ) (n : ℕ) → called s r m .answer .answer ≡ receiving.Refused n
+      → (called s r m .answer .receiver ≡ r) × (called s r m .memory ≡ m)
+  -- A meter that is refused when it is made is refused by every operation.
+  pub fresh-meter : (address : List ℕ) (n : ℕ) → created address .answer ≡ host.Refused n
+      → withinRanges (created address .meter) (created address .energies .forward) (created address .energies .reverse) ≡ false
+  -- The calls of the host.
+  pub set-key : (on : Bool) (m : Meter) (forward reverse : Rows) (n : ℕ) → keySet on m forward reverse .answer ≡ host.Refused n
+      → keySet on m forward reverse .meter ≡ m
+  pub pulse : (amount direction rate : ℕ) (m : Meter) (forward reverse : Rows) (n : ℕ)
+      → pulsedBy amount direction rate m forward reverse .answer ≡ host.Refused n
+      → pulsedBy amount direction rate m forward reverse .energies ≡ energiesOf forward reverse
+  pub settle : (m : Meter) (forward reverse : Rows) (n : ℕ) → settledBy m forward reverse .answer ≡ host.Refused n
+      → settledBy m forward reverse .energies ≡ energiesOf forward reverse
+  -- A frame.
+  pub frame : (bytes : List ℕ) (m : Meter) (forward reverse : Rows) (memory : List ℕ) (n : ℕ)
+      → answered bytes m forward reverse memory .answer .answer ≡ frames.Refused n
+      → (answered bytes m forward reverse memory .answer .meter ≡ m) × (answered bytes m forward reverse memory .memory ≡ memory)
+  -- The reader's end.
+  pub build : (request : Request) (m : List ℕ) (n : ℕ) → built request m .answer ≡ building.Refused n → built request m .memory ≡ m
+  pub judge : (request : Request) (bytes m : List ℕ) (n : ℕ) → judged request bytes m .answer ≡ judging.Refused n → judged request bytes m .memory ≡ m
+  -- An exchange.
+  pub exchange : (request : Request) (m : Meter) (forward reverse : Rows) (lent : Memories) (n : ℕ)
+      → exchanged request m forward reverse lent .returned .answer ≡ exchanging.Refused n
+      → (exchanged request m forward reverse lent .returned .meter ≡ m) × (exchanged request m forward reverse lent .lent ≡ lent)
+
+-- Of each operation: what it answers is no refusal, or nothing changed.
+receiver-kept : (s : Symbol) (r : Receiver) (m : List ℕ) (n : ℕ) → called s r m .answer .answer ≡ receiving.Refused n
+    → (called s r m .answer .receiver ≡ r) × (called s r m .memory ≡ m)
+unfolding called refused delivered
+receiver-kept s r m n =
+    pick-cases P (withinRange r)
+    (λ _. pick-cases P (leb 212 (length m)) (λ _ e. absurd (let z : _≡_ {A = ℕ} 0 1 = cc in omega arith)) (λ _ e. (refl, refl)))
+    (λ _ e. (refl, refl))
+  where
+    P : Outcome Received → Type 0
+    P o = o .answer .answer ≡ receiving.Refused n → (o .answer .receiver ≡ r) × (o .memory ≡ m)
+
+fresh-out-of-range : (address : List ℕ) (n : ℕ) → created address .answer ≡ host.Refused n
+    → withinRanges (created address .meter) (created address .energies .forward) (created address .energies .reverse) ≡ false
+unfolding created withinRanges freshMeter
+fresh-out-of-range address n = go (isGood address) _
+  where
+    go : (good rest : Bool) → pick good host.Done (host.Refused badArgument) ≡ host.Refused n → (good && rest) ≡ false
+    go true rest e = absurd (let z : _≡_ {A = ℕ} 0 1 = cc in omega arith)
+    go false rest e = refl
+
+key-kept : (on : Bool) (m : Meter) (forward reverse : Rows) (n : ℕ) → keySet on m forward reverse .answer ≡ host.Refused n
+    → keySet on m forward reverse .meter ≡ m
+unfolding keySet
+key-kept on m forward reverse n =
+    pick-cases (λ (k : KeySet). k .answer ≡ host.Refused n → k .meter ≡ m) (withinRanges m forward reverse)
+    (λ _ e. absurd (let z : _≡_ {A = ℕ} 0 1 = cc in omega arith))
+    (λ _ e. refl)
+
+-- Readings that come back with a refusal are those that were given.
+abbrev ReadingsKept : Rows → Rows → ℕ → Counted → Type 0
+ReadingsKept forward reverse n c = c .answer ≡ host.Refused n → c .energies ≡ energiesOf forward reverse
+
+pulse-kept : (amount direction rate : ℕ) (m : Meter) (forward reverse : Rows) (n : ℕ)
+    → ReadingsKept forward reverse n (pulsedBy amount direction rate m forward reverse)
+unfolding pulsedBy
+pulse-kept amount direction rate m forward reverse n =
+    pick-cases P (withinRanges m forward reverse)
+    (λ _. pick-cases P (leb direction 1 && isRate rate)
+    (λ _. pick-cases P (eqb direction 0) (λ _ e. absurd (let z : _≡_ {A = ℕ} 0 1 = cc in omega arith))
+    (λ _ e. absurd (let z : _≡_ {A = ℕ} 0 1 = cc in omega arith)))
+    (λ _ e. refl))
+    (λ _ e. refl)
+  where
+    P : Counted → Type 0
+    P = ReadingsKept forward reverse n
+
+settle-kept : (m : Meter) (forward reverse : Rows) (n : ℕ) → ReadingsKept forward reverse n (settledBy m forward reverse)
+unfolding settledBy
+settle-kept m forward reverse n =
+    pick-cases (ReadingsKept forward reverse n) (withinRanges m forward reverse)
+    (λ _ e. absurd (let z : _≡_ {A = ℕ} 0 1 = cc in omega arith))
+    (λ _ e. refl)
+
+frame-kept : (bytes : List ℕ) (m : Meter) (forward reverse : Rows) (memory : List ℕ) (n : ℕ)
+    → answered bytes m forward reverse memory .answer .answer ≡ frames.Refused n
+    → (answered bytes m forward reverse memory .answer .meter ≡ m) × (answered bytes m forward reverse memory .memory ≡ memory)
+unfolding replied
+frame-kept bytes m forward reverse memory n h = go (answers bytes m forward reverse memory)
+  where
+    go : Answers bytes m forward reverse memory
+        → (answered bytes m forward reverse memory .answer .meter ≡ m) × (answered bytes m forward reverse memory .memory ≡ memory)
+    go (refuses k small e) = rw e (refl, refl)
+    go (errs command b w loud e) = absurd (not-replied (sym (rw e at h)))
+    go (carries command w all e) = absurd (not-replied (sym (rw e at h)))
+
+build-kept : (request : Request) (m : List ℕ) (n : ℕ) → built request m .answer ≡ building.Refused n → built request m .memory ≡ m
+unfolding built
+build-kept request m n =
+    pick-cases P (leb 66 (length m))
+    (λ _. pick-cases P (isAllowed request) (λ _ e. absurd (let z : _≡_ {A = ℕ} 0 1 = cc in omega arith)) (λ _ e. refl))
+    (λ _ e. refl)
+  where
+    P : Outcome Built → Type 0
+    P o = o .answer ≡ building.Refused n → o .memory ≡ m
+
+judge-kept : (request : Request) (bytes m : List ℕ) (n : ℕ) → judged request bytes m .answer ≡ judging.Refused n → judged request bytes m .memory ≡ m
+unfolding judged
+judge-kept request bytes m n h = rw h
+
+-- An exchange that went over the line was not refused.
+over-not-refused : (request : Request) (delivered : ℕ) (a : FrameAnswer) (m : Meter) (reply value : List ℕ) (n : ℕ)
+    → concludedBy request delivered a m reply value .answer .answer ≡ exchanging.Refused n → ⊥
+over-not-refused request delivered (frames.Replied k) m reply value n e = let z : _≡_ {A = ℕ} 0 1 = cc in omega arith
+over-not-refused request delivered (frames.Refused k) m reply value n e = let z : _≡_ {A = ℕ} 0 1 = cc in omega arith
+
+exchange-kept : (request : Request) (m : Meter) (forward reverse : Rows) (lent : Memories) (n : ℕ)
+    → exchanged request m forward reverse lent .returned .answer ≡ exchanging.Refused n
+    → (exchanged request m forward reverse lent .returned .meter ≡ m) × (exchanged request m forward reverse lent .lent ≡ lent)
+unfolding exchanged carried concluded
+exchange-kept request m forward reverse lent n =
+    pick-cases P (withinRanges m forward reverse)
+    (λ _. pick-cases P (enough lent)
+    (λ _. pick-cases P (isAllowed request) (λ _ e. absurd (went-over e)) (λ _ e. (refl, refl)))
+    (λ _ e. (refl, refl)))
+    (λ _ e. (refl, refl))
+  where
+    went-over : carried request m forward reverse lent .returned .answer ≡ exchanging.Refused n → ⊥
+    went-over e =
+        let a = answered (requestFrame request) m forward reverse (lent .reply) in
+        over-not-refused request (length (requestFrame request)) (a .answer .answer) (a .answer .meter) (a .memory) (lent .value) n e
+
+    P : ExchangeOutcome → Type 0
+    P o = o .returned .answer ≡ exchanging.Refused n → (o .returned .meter ≡ m) × (o .lent ≡ lent)
+
+-- Demand 1.
+pub demand-1 : RefusalsChangeNothing
+demand-1 =
+    record {
+      receiver = receiver-kept;
+      fresh-meter = fresh-out-of-range;
+      set-key = key-kept;
+      pulse = pulse-kept;
+      settle = settle-kept;
+      frame = frame-kept;
+      build = build-kept;
+      judge = judge-kept;
+      exchange = exchange-kept;
+    }

@@ -1,0 +1,127 @@
+-- The terms in which demand 2 of the letter is stated, end to end: what an exchange of a request with a meter comes to.
+use Prim.Native.Nat.{ℕ, _*_, _≤_, _<_}
+use mathlib.Core.Path.{_≡_}
+use mathlib.Core.List.{List, [], _∷_, _++_}
+use mathlib.Core.Bool.{true}
+use lib.ListN.{length}
+use lib.Dec.{eqb}
+use Rattle.frame.specs.Frame.{Bytes}
+use Rattle.frame.specs.Memory.{over, pick}
+use Rattle.frame.specs.Refusals.{notForThisMeter}
+use Rattle.frame.specs.Writing.{frameFor}
+use Rattle.item.specs.Reply.{notAuthorised}
+use Rattle.item.specs.Table.{itemOf}
+use Rattle.item.specs.declared.table.Kind.the-variants.{Energy}
+use Rattle.item.specs.declared.table.Item.{Item}
+use Rattle.item.specs.declared.table.Lookup.the-variants.{Listed}
+use Rattle.energy.specs.Energies.{Rows}
+use Rattle.meter.specs.Meter.{passwordAt, valueHeld}
+use Rattle.meter.specs.Ranges.{InRanges}
+use Rattle.meter.specs.Answer.{valueOf}
+use Rattle.meter.specs.Silence.{IsFor}
+use Rattle.meter.specs.declared.Meter.{Meter}
+use Rattle.meter.specs.declared.request.Command.{Command}
+use Rattle.meter.specs.declared.request.Command.the-variants as command
+use Rattle.reader.specs.Allowed.{Sized, requestValue}
+use Rattle.reader.specs.Building.{identifierBytes, sentTo, requestFrame, requestBytes}
+use Rattle.reader.specs.declared.Action.{Action}
+use Rattle.reader.specs.declared.Action.the-variants.{ReadData, ReadAddress, WriteData}
+use Rattle.reader.specs.declared.Request.{Request}
+use Rattle.reader.specs.declared.Judgement.the-variants.{Value, Error}
+use Rattle.exchange.specs.Exchange.{Memories, memories, ExchangeOutcome, outcomeOf, exchangedWith, exchanged}
+use Rattle.exchange.specs.Readings.{decoded, columnsReadings}
+use Rattle.exchange.specs.declared.ExchangeAnswer.{ExchangeAnswer}
+use Rattle.exchange.specs.declared.ExchangeAnswer.the-variants.{Silent, Judged}
+
+-- What the type says of a request.
+pub record Typed (request : Request) : Type 0 where
+  pub sized : Sized request
+  pub identifier : request .identifier < 4294967296
+  pub password : Bytes (request .password)
+  pub operator : Bytes (request .operator)
+
+-- The command that a meter knows an action as.
+abbrev pub commandFor : Action → Command
+commandFor ReadData = command.ReadData
+commandFor ReadAddress = command.ReadAddress
+commandFor WriteData = command.WriteData
+
+-- Document 01's check 4: the request is meant for this meter.
+abbrev pub MeantFor : Request → Meter → Type 0
+MeantFor request m = IsFor (commandFor (request .action)) (sentTo (request .action) (request .address)) (m .address)
+
+-- An action that reads, and one that writes.
+abbrev pub IsRead : Action → Type 0
+IsRead ReadData = Unit
+IsRead ReadAddress = Unit
+IsRead WriteData = ⊥
+
+-- What a meter holds for a read: the value of the item, or its address.
+abbrev pub heldFor : Action → ℕ → Meter → Rows → Rows → List ℕ
+heldFor ReadData identifier m forward reverse = valueOf (itemOf identifier) m forward reverse
+heldFor ReadAddress identifier m forward reverse = m .address
+heldFor WriteData identifier m forward reverse = []
+
+-- The reply to a read: 91 with identifier and value, 93 with the address.
+abbrev pub replyFrame : Action → ℕ → List ℕ → List ℕ → List ℕ
+replyFrame ReadData identifier own value = frameFor own 0x91 (identifierBytes identifier ++ value)
+replyFrame ReadAddress identifier own value = frameFor own 0x93 value
+replyFrame WriteData identifier own value = frameFor own 0x94 []
+
+-- Memory of the asked sizes.
+pub record EnoughMemory (lent : Memories) : Type 0 where
+  pub sent : 66 ≤ length (lent .sent)
+  pub heard : 212 ≤ length (lent .heard)
+  pub reply : 212 ≤ length (lent .reply)
+  pub value : 196 ≤ length (lent .value)
+
+-- The outcome of an exchange that went over the line: the request was sent and delivered, this reply came, if any, and this value was
+-- given to the reader. Beyond what is written all memory is as it was.
+abbrev pub comesTo : Request → Meter → ExchangeAnswer → List ℕ → List ℕ → Memories → ExchangeOutcome
+comesTo request after answer reply value lent =
+    outcomeOf (exchangedWith after answer (length (requestFrame request)) (length reply))
+    (memories (over (requestBytes request) (lent .sent)) (over (requestFrame request) (lent .heard)) (over reply (lent .reply)) (over value (lent .value)))
+
+-- A read gives the reader exactly what the meter holds, and the meter is as it was; for energies this decodes to the numbers at the rows
+-- and columns in document 01's order.
+pub record ReadGives (request : Request) (m : Meter) (forward reverse : Rows) (lent : Memories) : Type 0 where
+  pub outcome : let held = heldFor (request .action) (request .identifier) m forward reverse in
+      exchanged request m forward reverse lent
+      ≡ comesTo request m (Judged (Value (length held))) (replyFrame (request .action) (request .identifier) (m .address) held) held lent
+  pub numbers : (item : Item) (direction rate rates row rows : ℕ) → request .action ≡ ReadData → itemOf (request .identifier) ≡ Listed item
+      → item .kind ≡ Energy direction rate rates row rows
+      → decoded (rates * rows) (heldFor (request .action) (request .identifier) m forward reverse)
+      ≡ columnsReadings (pick (eqb direction 0) forward reverse) rate rates row rows
+
+-- The checks of a write that an allowed request does not settle: key on, level at most 04, and the password of that level right.
+pub record Authorised (request : Request) (m : Meter) : Type 0 where
+  pub key-on : m .key ≡ true
+  pub level : request .level ≤ 4
+  pub password : request .password ≡ passwordAt (request .level) m
+
+-- A write is answered 94, the meter holds the value and the operator code, and everything else is as it was.
+pub record WriteSets (request : Request) (m : Meter) (forward reverse : Rows) (lent : Memories) : Type 0 where
+  pub after : Meter
+  pub outcome : exchanged request m forward reverse lent
+      ≡ comesTo request after (Judged (Value 0)) (replyFrame (request .action) (request .identifier) (m .address) []) [] lent
+  pub item : Item
+  pub listed : itemOf (request .identifier) ≡ Listed item
+  pub held : valueHeld item after forward reverse ≡ requestValue request
+  pub operator : after .operator ≡ request .operator
+  pub others : (identifier : ℕ) (other : Item) → itemOf identifier ≡ Listed other → (identifier ≡ request .identifier → ⊥)
+      → valueHeld other after forward reverse ≡ valueHeld other m forward reverse
+  pub address : after .address ≡ m .address
+  pub key : after .key ≡ m .key
+  pub passwords : after .passwords ≡ m .passwords
+  pub ranges : InRanges after forward reverse
+
+-- A write that is not authorised is answered by error byte 04, and nothing moved.
+abbrev pub WriteFails : Request → Meter → Rows → Rows → Memories → Type 0
+WriteFails request m forward reverse lent =
+    exchanged request m forward reverse lent
+    ≡ comesTo request m (Judged (Error notAuthorised)) (frameFor (m .address) 0xD4 (notAuthorised ∷ [])) [] lent
+
+-- A request to another address gets silence, and nothing moved.
+abbrev pub GetsSilence : Request → Meter → Rows → Rows → Memories → Type 0
+GetsSilence request m forward reverse lent =
+    exchanged request m forward reverse lent ≡ comesTo request m (Silent notForThisMeter) [] [] lent

@@ -1,0 +1,14 @@
+pub mod Exchange
+pub mod HearingLaws
+pub mod Hearing
+pub mod Readings
+pub mod EndToEnd
+pub mod ExchangeLaws
+pub mod Steps
+pub mod ReplyLaws
+pub mod Reads
+pub mod WritesAcross
+pub mod Foreign
+pub mod Demand2
+pub mod Demand1
+pub mod Cases
