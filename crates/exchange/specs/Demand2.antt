@@ -1,6 +1,5 @@
 -- Demand 2 of the letter, end to end: for every allowed request, every meter within document 01's ranges and every lent memory of the asked
 -- sizes, whatever it holds.
-use Prim.Native.Nat.{ℕ}
 use mathlib.Core.Path.{_≡_}
 use mathlib.Core.List.{List}
 use mathlib.Core.Bool.{true}

@@ -1,12 +1,12 @@
 -- Every reply is one frame whose address is the meter's own; after 15 it is the new one.
 use Prim.Native.Nat.{ℕ, _+_, _≤_}
 use mathlib.Core.Path.{_≡_, refl, sym, ap, _∙_}
-use mathlib.Core.List.{List, [], _∷_, map, append-nil}
+use mathlib.Core.List.{List, [], _∷_, append-nil}
 use mathlib.Core.Bool.{true, false, true≢false}
 use native.Mathlib.Omega.{arith}
-use lib.ListN.{length, take, drop, length-map}
+use lib.ListN.{length, take, drop}
 use lib.Seq.{take-at, drop-at}
-use Rattle.frame.specs.Frame.{Frame, addressOf, controlOf, dataOf, masked}
+use Rattle.frame.specs.Frame.{Frame, addressOf, controlOf, dataOf}
 use Rattle.frame.specs.FrameLaws.{frame-for, frame-for-length, address-back}
 use Rattle.frame.specs.Writing.{frameFor}
 use Rattle.item.specs.Reply.{replyTo}

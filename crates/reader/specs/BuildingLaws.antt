@@ -1,13 +1,12 @@
 -- Laws of a request's bytes: how many its data are, how they come to stand in an array, and the frame behind four FE.
 use Prim.Native.Nat.{ℕ, _+_, _-_, _≤_}
 use mathlib.Core.Path.{_≡_, refl, ap, _∙_}
-use mathlib.Core.List.{List, [], _∷_, _++_, map, append-assoc}
+use mathlib.Core.List.{List, [], _∷_, _++_, append-assoc}
 use mathlib.Core.Bool.{true}
 use native.Mathlib.Omega.{arith}
-use lib.ListN.{length, take, drop, replicate, length-append, length-map, length-drop}
+use lib.ListN.{length, take, drop, replicate, length-append, length-drop}
 use lib.Seq.{take-at, length-take-le}
 use borrow.Author.Tests.{le-leb}
-use Rattle.frame.specs.Frame.{masked}
 use Rattle.frame.specs.FrameLaws.{frame-for-length}
 use Rattle.frame.specs.Memory.{Outcome, outcome, over}
 use Rattle.frame.specs.MemoryLaws.{over-length, lent-over, copied}
