@@ -15,6 +15,7 @@ use Rattle.frame.specs.Recognition.{recognised, recognisedBody, recognisedEnd, 
 use Rattle.frame.specs.RecognitionLaws.{one-frame}
 use Rattle.frame.specs.Writing.{frameFor}
 use Rattle.item.specs.Address.{isGood, lowBytes, isShortCount, hasShortForm, isShort}
+use Rattle.item.specs.Checks.{firstFailing}
 use Rattle.item.specs.Content.{digitsAt, within, minutesInRange, inRange, contentOf}
 use Rattle.item.specs.Decimal.{isDecimal, firstBadFrom, firstBad, allDecimal, digits, lowDigits, packed}
 use Rattle.item.specs.Reply.{controlCode, replyTo}
@@ -36,13 +37,13 @@ use Rattle.meter.specs.Meter.{withPart, withKey, withRegisters, passwordAt, pla
 use Rattle.meter.specs.Request.{commandOf, addressed, identifierOf, itemAsked, levelOf, passwordOf, operatorOf, writtenValue}
 use Rattle.meter.specs.Ranges.{within-ranges}
 use Rattle.meter.specs.AnswerLaws.{answered-treated, not-replied}
-use Rattle.meter.specs.Answer.{Treatment, silent, replies, firstFailing, authorised, checksOf, replyData, meterAfter, carriedOut, treated, answeredWith, delivered, answered}
+use Rattle.meter.specs.Answer.{Treatment, silent, replies, authorised, checksOf, replyData, meterAfter, carriedOut, treated, answeredWith, delivered, answered}
 use Rattle.meter.specs.declared.Meter.{Meter}
 use Rattle.meter.specs.declared.Answered.{Answered}
 use Rattle.meter.specs.declared.FrameAnswer.the-variants.{Replied}
-use Rattle.reader.specs.Allowed.{requestValue, firstCause, addressAllowed, valueConditions, conditionsOf, admission, isAllowed}
+use Rattle.reader.specs.Allowed.{requestValue, addressAllowed, valueConditions, conditionsOf, admission, isAllowed}
 use Rattle.reader.specs.Building.{wakeUp, identifierBytes, sentData, requestFrame, requestBytes, built}
-use Rattle.reader.specs.Judging.{firstRefusal, isNormal, isError, answersFrom, isAnswer, firstChecks, errorChecks, normalChecks, replyValue, verdict, judgementOf, written, judged}
+use Rattle.reader.specs.Judging.{isNormal, isError, answersFrom, isAnswer, firstChecks, errorChecks, normalChecks, replyValue, verdict, judgementOf, written, judged}
 use Rattle.reader.specs.declared.Action.{Action}
 use Rattle.reader.specs.declared.Action.the-variants.{ReadData, ReadAddress, WriteData}
 use Rattle.reader.specs.declared.Request.{Request}
@@ -170,7 +171,7 @@ AllCompute [] = Unit
 AllCompute (c ∷ cases) = Computes c × AllCompute cases
 
 computed : AllCompute table
-unfolding scan readingBy before begins settled broken bytesBefore recognised recognisedBody recognisedEnd isAll exactlyOne checksumOf total lengthOf fieldOf dataOf unmasked masked summed frameOf frameFor addressOf controlOf isGood lowBytes isShortCount hasShortForm isShort digitsAt within minutesInRange inRange contentOf isDecimal firstBadFrom firstBad allDecimal digits lowDigits packed controlCode replyTo same itemOf energyItem readings otherRows found readingInRange readingBytes rowInRange rowsInRange readingAt columnBytes columnsBytes withPart passwordAt placeOf heldAt valueHeld withValue withinRanges freshMeter commandOf addressed identifierOf itemAsked levelOf passwordOf operatorOf writtenValue firstFailing authorised checksOf replyData meterAfter carriedOut treated delivered requestValue firstCause addressAllowed valueConditions conditionsOf admission isAllowed identifierBytes sentData requestFrame requestBytes firstRefusal isNormal isError answersFrom isAnswer firstChecks errorChecks normalChecks replyValue verdict judgementOf table
+unfolding scan readingBy before begins settled broken bytesBefore recognised recognisedBody recognisedEnd isAll exactlyOne checksumOf total lengthOf fieldOf dataOf unmasked masked summed frameOf frameFor addressOf controlOf isGood lowBytes isShortCount hasShortForm isShort digitsAt within minutesInRange inRange contentOf isDecimal firstBadFrom firstBad allDecimal digits lowDigits packed controlCode replyTo same itemOf energyItem readings otherRows found readingInRange readingBytes rowInRange rowsInRange readingAt columnBytes columnsBytes withPart passwordAt placeOf heldAt valueHeld withValue withinRanges freshMeter commandOf addressed identifierOf itemAsked levelOf passwordOf operatorOf writtenValue authorised checksOf replyData meterAfter carriedOut treated delivered requestValue addressAllowed valueConditions conditionsOf admission isAllowed identifierBytes sentData requestFrame requestBytes firstFailing isNormal isError answersFrom isAnswer firstChecks errorChecks normalChecks replyValue verdict judgementOf table
 computed = ((refl, refl), ((refl, refl), ((refl, refl, refl), ((refl, refl), ((refl, refl), ((refl, refl, refl), ((refl, refl), ((refl, refl, refl), ((refl, refl), ((refl, refl), ((refl, refl, refl), ((refl, refl), ((refl, refl, refl), ((refl, refl), ((refl, refl), ((refl, refl), ((refl, refl), ((refl, refl), tt))))))))))))))))))
 
 -- A line: the frames listed are the certain ones, and those that every choice that keeps the rule takes; and calls of a fresh receiver

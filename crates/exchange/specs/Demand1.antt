@@ -1,6 +1,6 @@
 -- Demand 1 of the letter, gathered: a refusal changes neither a receiver, nor a meter, nor its readings, nor any memory lent. Each operation's
 -- contract equates what it answers and leaves with the definition that stands here for it.
-use Prim.Native.Nat.{ℕ}
+use Prim.Native.Nat.{ℕ, _+_}
 use mathlib.Core.Path.{_≡_, refl, sym}
 use mathlib.Core.List.{List}
 use mathlib.Core.Bool.{Bool, true, false, _&&_}
@@ -11,6 +11,9 @@ use Rattle.frame.specs.Memory.{Outcome, pick}
 use Rattle.frame.specs.Refusals.{badArgument}
 use Rattle.frame.specs.MemoryLaws.{pick-cases}
 use Rattle.item.specs.Address.{isGood}
+use Rattle.frame.specs.Writing.{writing}
+use Rattle.frame.specs.declared.Written.{Written}
+use Rattle.frame.specs.declared.Written.the-variants.{Length}
 use Rattle.energy.specs.Energies.{Rows, isRate}
 use Rattle.line.specs.Line.{Symbol}
 use Rattle.line.specs.Receiver.{withinRange, refused, delivered, called}
@@ -54,10 +57,12 @@ pub record RefusalsChangeNothing : Type 0 where
       → pulsedBy amount direction rate m forward reverse .energies ≡ energiesOf forward reverse
   pub settle : (m : Meter) (forward reverse : Rows) (n : ℕ) → settledBy m forward reverse .answer ≡ host.Refused n
       → settledBy m forward reverse .energies ≡ energiesOf forward reverse
-  -- A frame.
+  -- A frame put to a meter, and a frame that is not written.
   pub frame : (bytes : List ℕ) (m : Meter) (forward reverse : Rows) (memory : List ℕ) (n : ℕ)
       → answered bytes m forward reverse memory .answer .answer ≡ frames.Refused n
       → (answered bytes m forward reverse memory .answer .meter ≡ m) × (answered bytes m forward reverse memory .memory ≡ memory)
+  pub write-frame : (address : List ℕ) (control : ℕ) (meant m : List ℕ) → ((n : ℕ) → writing address control meant m .answer ≡ Length n → ⊥)
+      → writing address control meant m .memory ≡ m
   -- The reader's end.
   pub build : (request : Request) (m : List ℕ) (n : ℕ) → built request m .answer ≡ building.Refused n → built request m .memory ≡ m
   pub judge : (request : Request) (bytes m : List ℕ) (n : ℕ) → judged request bytes m .answer ≡ judging.Refused n → judged request bytes m .memory ≡ m
@@ -132,6 +137,17 @@ frame-kept bytes m forward reverse memory n h = go (answers bytes m forward reve
     go (errs command b w loud e) = absurd (not-replied (sym (rw e at h)))
     go (carries command w all e) = absurd (not-replied (sym (rw e at h)))
 
+unwritten-kept : (address : List ℕ) (control : ℕ) (meant m : List ℕ) → ((n : ℕ) → writing address control meant m .answer ≡ Length n → ⊥)
+    → writing address control meant m .memory ≡ m
+unfolding writing
+unwritten-kept address control meant m =
+    pick-cases P (leb (length meant) 200)
+    (λ _. pick-cases P (leb (12 + length meant) (length m)) (λ _ h. absurd (h (12 + length meant) refl)) (λ _ h. refl))
+    (λ _ h. refl)
+  where
+    P : Outcome Written → Type 0
+    P o = ((n : ℕ) → o .answer ≡ Length n → ⊥) → o .memory ≡ m
+
 build-kept : (request : Request) (m : List ℕ) (n : ℕ) → built request m .answer ≡ building.Refused n → built request m .memory ≡ m
 unfolding built
 build-kept request m n =
@@ -181,6 +197,7 @@ demand-1 =
       pulse = pulse-kept;
       settle = settle-kept;
       frame = frame-kept;
+      write-frame = unwritten-kept;
       build = build-kept;
       judge = judge-kept;
       exchange = exchange-kept;

@@ -9,6 +9,7 @@ use lib.ListN.{length, take, drop}
 use borrow.Author.Tests.{le-leb, eq-eqb}
 use Rattle.item.specs.Address.{Good, lowBytes, isShortCount, hasShortForm, isShort, shortMatches, ShortFor}
 use Rattle.item.specs.AddressLaws.{is-good, low-count, for-short}
+use Rattle.item.specs.Checks.{firstFailing}
 use Rattle.item.specs.Decimal.{Decimal}
 use Rattle.item.specs.DecimalLaws.{decimal-all, decimal-take, decimal-drop, decimal-join, packed-decimal}
 use Rattle.item.specs.Reply.{controlCode, replyTo}
@@ -32,7 +33,7 @@ use Rattle.meter.specs.declared.request.Command.the-variants as command
 use Rattle.reader.specs.Allowed.{isAllowed}
 use Rattle.reader.specs.Building as sent
 use Rattle.reader.specs.Building.{identifierBytes, sentTo, requestFrame}
-use Rattle.reader.specs.Judging.{firstRefusal, isError, answersFrom, normalChecks, replyValue, verdict}
+use Rattle.reader.specs.Judging.{isError, answersFrom, normalChecks, replyValue, verdict}
 use Rattle.reader.specs.declared.Action.{Action}
 use Rattle.reader.specs.declared.Action.the-variants.{ReadData, ReadAddress, WriteData}
 use Rattle.reader.specs.declared.Judgement.the-variants.{Value}
@@ -81,13 +82,13 @@ module _ (address own : List ℕ) (six : length address ≡ 6) (own-six : length
 -- What the reader makes of the data of a normal reply: the value of a 91 that has the item's length and is decimal, and of a 93 the address.
 pub data-verdict : (identifier : ℕ) (from value : List ℕ) → hasLength (itemOf identifier) (length value) ≡ true → Decimal value
     → verdict ReadData identifier 0x91 from (identifierBytes identifier ++ value) ≡ Value (length value)
-unfolding verdict isError replyTo controlCode firstRefusal normalChecks replyValue identifierBytes
+unfolding verdict isError replyTo controlCode firstFailing normalChecks replyValue identifierBytes
 data-verdict identifier from value long decimal =
     let four : 4 ≤ length (identifierBytes identifier ++ value) = omega arith in
     rw (le-leb 4 _ four, same-refl (identifierBytes identifier), long, decimal-all value decimal)
 
 pub address-verdict : (identifier : ℕ) (own : List ℕ) → length own ≡ 6 → Good own → verdict ReadAddress identifier 0x93 own own ≡ Value (length own)
-unfolding verdict isError firstRefusal normalChecks replyValue
+unfolding verdict isError firstFailing normalChecks replyValue
 address-verdict identifier own six own-good =
     rw (eq-eqb (length own) 6 six, decimal-all own (own-good .decimal), same-refl own, is-good own own-good)
 

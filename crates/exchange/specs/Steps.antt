@@ -13,6 +13,7 @@ use Rattle.frame.specs.FrameLaws.{frame-for, frame-for-length, address-back, co
 use Rattle.frame.specs.Memory.{outcome, over}
 use Rattle.frame.specs.RecognitionLaws.{bytes-append, frame-one}
 use Rattle.frame.specs.Writing.{frameFor}
+use Rattle.item.specs.Checks.{firstFailing}
 use Rattle.item.specs.ContentLaws.{content-allowed}
 use Rattle.item.specs.Decimal.{Decimal}
 use Rattle.item.specs.DecimalLaws.{decimal-bytes}
@@ -26,7 +27,7 @@ use Rattle.reader.specs.Allowed.{requestValue, isAllowed}
 use Rattle.reader.specs.AllowedLaws.{admitted-write}
 use Rattle.reader.specs.BuildingLaws.{sent-six}
 use Rattle.reader.specs.Building.{controlFor, identifierBytes, sentTo, sentData, requestFrame}
-use Rattle.reader.specs.Judging.{firstRefusal, isNormal, isError, answersFrom, isAnswer, firstChecks, replyValue, verdict, judgementOf, written, judged}
+use Rattle.reader.specs.Judging.{isNormal, isError, answersFrom, isAnswer, firstChecks, replyValue, verdict, judgementOf, written, judged}
 use Rattle.reader.specs.declared.Action.{Action}
 use Rattle.reader.specs.declared.Action.the-variants.{ReadData, ReadAddress, WriteData}
 use Rattle.reader.specs.declared.Request.{Request}
@@ -130,7 +131,7 @@ module _ (request : Request) (typed : Typed request) (allowed : isAllowed reques
         → (judgement : Judgement) (value : List ℕ) → verdict (request .action) (request .identifier) control from meant ≡ judgement
         → written judgement (replyValue (request .action) meant) (lent .value) ≡ over value (lent .value)
         → exchanged request m forward reverse lent ≡ comesTo request after (Judged judgement) (frameFor from control meant) value lent
-    unfolding carried concluded judged judgementOf firstChecks firstRefusal isAnswer
+    unfolding carried concluded judged judgementOf firstChecks firstFailing isAnswer
     replied-exchange after from control meant six few bytes answer answers from-there judgement value says writes =
         let reply : List ℕ = frameFor from control meant in
         let long : length reply ≡ 12 + length meant = frame-for-length from control meant six in

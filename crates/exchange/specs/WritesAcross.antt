@@ -10,6 +10,7 @@ use lib.Seq.{length-take-le, take-at, drop-at}
 use borrow.Author.Tests.{leb-true, le-leb}
 use Rattle.frame.specs.Frame.{addressOf, controlOf, dataOf}
 use Rattle.frame.specs.MemoryLaws.{pick-cases}
+use Rattle.item.specs.Checks.{firstFailing}
 use Rattle.item.specs.Content.{within}
 use Rattle.item.specs.ContentLaws.{content-allowed}
 use Rattle.item.specs.Reply.{controlCode, replyTo, notAuthorised}
@@ -21,7 +22,7 @@ use Rattle.energy.specs.Energies.{Rows}
 use Rattle.meter.specs.Meter.{Sized}
 use Rattle.meter.specs.Ranges.{InRanges}
 use Rattle.meter.specs.Request.{commandOf, addressed, identifierOf, itemAsked, levelOf, passwordOf, operatorOf, writtenValue}
-use Rattle.meter.specs.Answer.{Treatment, replies, firstFailing, authorised, checksOf, carriedOut, treated, delivered, answered}
+use Rattle.meter.specs.Answer.{Treatment, replies, authorised, checksOf, carriedOut, treated, delivered, answered}
 use Rattle.meter.specs.AnswerLaws.{answered-treated}
 use Rattle.meter.specs.Writes.{EveryCheckHolds, Accepted, accepted-write}
 use Rattle.meter.specs.declared.Meter.{Meter}
@@ -30,7 +31,7 @@ use Rattle.reader.specs.Allowed.{requestValue, isAllowed}
 use Rattle.reader.specs.AllowedLaws.{WriteAllowed, admitted-write}
 use Rattle.reader.specs.BuildingLaws.{write-length}
 use Rattle.reader.specs.Building.{controlFor, identifierBytes, sentTo, sentData, requestFrame}
-use Rattle.reader.specs.Judging.{isNormal, isError, answersFrom, firstRefusal, errorChecks, normalChecks, replyValue, verdict}
+use Rattle.reader.specs.Judging.{isNormal, isError, answersFrom, errorChecks, normalChecks, replyValue, verdict}
 use Rattle.reader.specs.declared.Action.{Action}
 use Rattle.reader.specs.declared.Action.the-variants.{WriteData}
 use Rattle.reader.specs.declared.Judgement.the-variants.{Value, Error}
@@ -158,7 +159,7 @@ module _ (request : Request) (typed : Typed request) (allowed : isAllowed reques
             unauthorised (record { key-on = k; level = leb-true _ _ (right .0); password = same-equal _ _ (right .1) }))
 
   pub write-sets : request .action ≡ WriteData → MeantFor request m → Authorised request m → WriteSets request m forward reverse lent
-  unfolding isNormal isError replyTo controlCode verdict firstRefusal normalChecks replyValue
+  unfolding isNormal isError replyTo controlCode verdict firstFailing normalChecks replyValue
   write-sets writes meant authorised =
       record {
         after = done .after;
@@ -188,7 +189,7 @@ module _ (request : Request) (typed : Typed request) (allowed : isAllowed reques
       done = accepted-write (requestFrame request) m forward reverse (lent .reply) sized checks
 
   pub write-fails : request .action ≡ WriteData → MeantFor request m → (Authorised request m → ⊥) → WriteFails request m forward reverse lent
-  unfolding isNormal isError replyTo controlCode verdict firstRefusal errorChecks delivered
+  unfolding isNormal isError replyTo controlCode verdict firstFailing errorChecks delivered
   write-fails writes meant unauthorised =
       replied-exchange request typed allowed m forward reverse ranges lent room m (m .address) 0xD4 (notAuthorised ∷ []) (sized .address) (omega arith)
       (omega arith, tt) (answered-04 writes meant unauthorised) (rw writes) (from-own writes meant) (Error notAuthorised) [] (rw writes) refl

@@ -1,3 +1,5 @@
+pub mod Checks
+pub mod ChecksLaws
 pub mod Same
 pub mod SameLaws
 pub mod CompareLaws

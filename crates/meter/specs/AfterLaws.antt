@@ -8,6 +8,7 @@ use lib.ListN.{length, take, length-append}
 use lib.Seq.{length-take-le}
 use borrow.Author.Tests.{leb-true, eqb-true}
 use Rattle.item.specs.AddressLaws.{good}
+use Rattle.item.specs.ChecksLaws.{AllHold}
 use Rattle.item.specs.TableLaws.{listed-most}
 use Rattle.item.specs.declared.table.Lookup.{Lookup}
 use Rattle.item.specs.declared.table.Lookup.the-variants.{Listed, NotListed}
@@ -17,7 +18,7 @@ use Rattle.meter.specs.MeterLaws.{part-length, put-length, only-register
 use Rattle.meter.specs.Ranges.{InRanges, ranges-again}
 use Rattle.meter.specs.Request.{controlFor, identifierOf, itemAsked, operatorOf, writtenValue, newLevelOf, newPasswordOf}
 use Rattle.meter.specs.Answer.{namesPassword, checksOf, valueOf, withItem, replyData, meterAfter}
-use Rattle.meter.specs.CommandLaws.{AllHold, WriteHolds, write-holds}
+use Rattle.meter.specs.CommandLaws.{WriteHolds, write-holds}
 use Rattle.meter.specs.declared.Meter.{Meter}
 use Rattle.meter.specs.declared.request.Command.{Command}
 use Rattle.meter.specs.declared.request.Command.the-variants.{ReadData, ReadAddress, WriteData, WriteAddress, ChangePassword}

@@ -10,6 +10,7 @@ use Rattle.frame.specs.Frame.{addressOf, controlOf, dataOf}
 use Rattle.frame.specs.Recognition.{exactlyOne}
 use Rattle.frame.specs.Writing.{frameFor}
 use Rattle.item.specs.Address.{isGood}
+use Rattle.item.specs.Checks.{Check, check, firstFailing}
 use Rattle.item.specs.Content.{contentOf, isAllowed, within}
 use Rattle.item.specs.Decimal.{allDecimal}
 use Rattle.item.specs.Reply.{replyTo, otherError, noSuchData, notAuthorised}
@@ -39,22 +40,9 @@ pub data Failure : Type 0 where
   errorByte : ℕ → Failure
   silence : ℕ → Failure
 
--- A row of document 01's table of checks.
-pub record Check : Type 0 where
-  pub holds : Bool
-  pub failure : Failure
-
-abbrev check : Bool → Failure → Check
-check holds failure = record { holds = holds; failure = failure }
-
 abbrev pub failed : Command → Meter → Failure → Treatment
 failed command m (errorByte e) = replies (replyTo (controlFor command) true) (e ∷ []) m
 failed command m (silence n) = silent n
-
--- The first failing check answers.
-unfoldable pub firstFailing : Command → Meter → List Check → Treatment → Treatment
-firstFailing command m [] passed = passed
-firstFailing command m (c ∷ checks) passed = pick (c .holds) (firstFailing command m checks passed) (failed command m (c .failure))
 
 -- Checks of what was looked up; of an identifier that is not listed none holds.
 abbrev pub isListed : Lookup → Bool
@@ -81,8 +69,8 @@ mayChange old password new m = leb old new && same password (passwordAt old m)
 unfoldable pub namesPassword : ℕ → ℕ → Bool
 namesPassword identifier new = leb new 9 && eqb identifier (0x04000C01 + new)
 
--- Document 01's table of checks, by control.
-unfoldable pub checksOf : Command → List ℕ → Meter → List Check
+-- Document 01's table of checks, by control; the first failing check answers.
+unfoldable pub checksOf : Command → List ℕ → Meter → List (Check Failure)
 checksOf ReadData meant m =
     check (eqb (length meant) 4) (errorByte otherError)
     ∷ check (isListed (itemAsked meant)) (errorByte noSuchData)
@@ -140,7 +128,7 @@ meterAfter ChangePassword meant m = withPasswords (withPart (3 * newLevelOf mean
 -- A command carried out: the first failing check answers, else the normal reply.
 unfoldable pub carriedOut : Command → List ℕ → Meter → Rows → Rows → Treatment
 carriedOut command meant m forward reverse =
-    firstFailing command m (checksOf command meant m)
+    firstFailing (failed command m) (checksOf command meant m)
     (replies (replyTo (controlFor command) false) (replyData command meant m forward reverse) (meterAfter command meant m))
 
 -- Checks 3 and 4, and then by control.

@@ -13,6 +13,7 @@ use Rattle.frame.specs.Frame.{Frame, Bytes, addressOf, controlOf, fieldOf, data
 use Rattle.frame.specs.FrameLaws.{control-back}
 use Rattle.frame.specs.Recognition.{exactlyOne}
 use Rattle.frame.specs.RecognitionLaws.{one-frame, frame-one}
+use Rattle.item.specs.ChecksLaws.{AllHold, all-pass, pass-or-fail}
 use Rattle.item.specs.Reply.{replyTo}
 use Rattle.frame.specs.MemoryLaws.{pick-cases}
 use Rattle.energy.specs.Energies.{Rows}
@@ -20,7 +21,7 @@ use Rattle.meter.specs.Meter.{withinRanges}
 use Rattle.meter.specs.Ranges.{InRanges, within-ranges}
 use Rattle.meter.specs.Request.{controlFor, addressed}
 use Rattle.meter.specs.Answer.{Treatment, silent, replies, Failure, errorByte, silence, failed, checksOf, replyData, meterAfter, carriedOut, forMeter, treated, refused, delivered, answered}
-use Rattle.meter.specs.CommandLaws.{command-known, asks, Asks, known, unknown, same-control, AllHold, all-pass, pass-or-fail, failsSilently, FailsAs, checks-fail}
+use Rattle.meter.specs.CommandLaws.{command-known, asks, Asks, known, unknown, same-control, failsSilently, FailsAs, checks-fail}
 use Rattle.meter.specs.declared.Meter.{Meter}
 use Rattle.meter.specs.declared.Answered.{Answered}
 use Rattle.meter.specs.declared.FrameAnswer.the-variants.{Replied, Refused}
@@ -79,7 +80,7 @@ module _ (bytes : List ℕ) (m : Meter) (forward reverse : Rows) where
     answered-normal command w h =
         answered-treated (w .ranges) (w .room) (w .one-frame)
         ∙ rw (w .control, command-known command, w .for-meter)
-        (ap (λ (t : Treatment). delivered t m memory) (all-pass command m _ (checksOf command (dataOf bytes) m) h))
+        (ap (λ (t : Treatment). delivered t m memory) (all-pass (failed command m) _ (checksOf command (dataOf bytes) m) h))
 
     -- The ways that an answer comes about: a refusal, an error reply, or the normal reply where every check holds.
     pub data Answers : Type 0 where
@@ -114,7 +115,7 @@ module _ (bytes : List ℕ) (m : Meter) (forward reverse : Rows) where
 
         carried : (command : Command) → Reaches command → P (delivered (carriedOut command (dataOf bytes) m forward reverse) m memory)
         carried command w =
-            pass-or-fail command m _ (λ t. P (delivered t m memory)) (FailsAs command) (checksOf command (dataOf bytes) m)
+            pass-or-fail (failed command m) _ (λ t. P (delivered t m memory)) (FailsAs command) (checksOf command (dataOf bytes) m)
             (checks-fail command (dataOf bytes) m) (carries command w) fail
           where
             fail : (f : Failure) → FailsAs command f → P (delivered (failed command m f) m memory)

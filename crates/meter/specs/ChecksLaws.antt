@@ -1,12 +1,14 @@
 -- Laws of the code's checks, and of document 01's checks as the code goes through them.
 use Prim.Native.Nat.{ℕ, _≤_}
-use mathlib.Core.Path.{_≡_, refl, _∙_}
+use mathlib.Core.Path.{_≡_, refl, subst}
 use mathlib.Core.List.{List, [], _∷_}
 use mathlib.Core.Bool.{Bool, true, false, false≢true, and-eq-true-iff}
 use lib.ListN.{length, drop}
 use lib.Dec.{eqb}
 use borrow.Author.Tests.{leb-true}
 use Rattle.frame.specs.Memory.{pick}
+use Rattle.item.specs.Checks.{Check}
+use Rattle.item.specs.ChecksLaws as laws
 use Rattle.item.specs.Content.{within}
 use Rattle.item.specs.Reply.{replyTo}
 use Rattle.energy.specs.Energies.{Rows}
@@ -17,7 +19,6 @@ use Rattle.meter.specs.Treated.{Means}
 use Rattle.meter.specs.declared.Meter.{Meter}
 use Rattle.meter.specs.declared.treated.Treated.{Treated}
 use Rattle.meter.specs.declared.request.Command.{Command}
-use Rattle.meter.specs.declared.request.Check.{Check}
 use Rattle.meter.specs.declared.request.Check.the-variants.{Holds, Fails}
 use Rattle.meter.specs.declared.request.ReadRequest.the-variants as read
 use Rattle.meter.specs.declared.request.WriteRequest.the-variants as write
@@ -32,40 +33,22 @@ pub check-false : (t : Bool) → checkOf t ≡ Fails → t ≡ false
 check-false true h = cc
 check-false false h = refl
 
--- The checks from these on decide on a command: those before them hold.
-pub record Left (command : Command) (meant : List ℕ) (m : Meter) (forward reverse : Rows) (checks : List answer.Check) : Type 0 where
-  pub decides : answer.carriedOut command meant m forward reverse
-      ≡ answer.firstFailing command m checks
-      (answer.replies (replyTo (controlFor command) false) (answer.replyData command meant m forward reverse) (answer.meterAfter command meant m))
-
 -- The first `k` checks of a command hold.
 abbrev pub Passed : Command → List ℕ → Meter → Rows → Rows → ℕ → Type 0
-Passed command meant m forward reverse k = Left command meant m forward reverse (drop k (answer.checksOf command meant m))
+Passed command meant m forward reverse k =
+    laws.Left (answer.failed command m) (answer.carriedOut command meant m forward reverse)
+    (answer.replies (replyTo (controlFor command) false) (answer.replyData command meant m forward reverse) (answer.meterAfter command meant m))
+    (drop k (answer.checksOf command meant m))
 
-module _ {command : Command} {meant : List ℕ} {m : Meter} {forward reverse : Rows} where
-  pub all-left : Left command meant m forward reverse (answer.checksOf command meant m)
-  unfolding answer.carriedOut
-  all-left = record { decides = refl }
+module _ {A : Type 0} {fail : A → answer.Treatment} {t passed : answer.Treatment} {r : Treated} where
+  -- A check that fails answers: a decision that means its failure means the answer.
+  pub check-fails : {c : Check A} {checks : List (Check A)} → laws.Left fail t passed (c ∷ checks) → c .holds ≡ false
+      → Means r (fail (c .failure)) → Means r t
+  check-fails left h means = subst (Means r) (laws.check-fails left h) means
 
-  module _ {c : answer.Check} {checks : List answer.Check} (left : Left command meant m forward reverse (c ∷ checks)) where
-    -- A check that holds is passed over.
-    pub check-holds : c .holds ≡ true → Left command meant m forward reverse checks
-    unfolding answer.firstFailing
-    check-holds h = record { decides = left .decides ∙ rw h }
-
-    -- A check that fails answers.
-    pub check-fails : {r : Treated} → c .holds ≡ false → Means r (answer.failed command m (c .failure))
-        → Means r (answer.carriedOut command meant m forward reverse)
-    unfolding answer.firstFailing
-    check-fails h means = rw (left .decides, h) means
-
-  -- Where no check is left, the reply is the normal one.
-  pub no-check-left : {r : Treated} → Left command meant m forward reverse []
-      → Means r
-      (answer.replies (replyTo (controlFor command) false) (answer.replyData command meant m forward reverse) (answer.meterAfter command meant m))
-      → Means r (answer.carriedOut command meant m forward reverse)
-  unfolding answer.firstFailing
-  no-check-left left means = rw (left .decides) means
+  -- Where no check is left, a decision that means the reply passed means the answer.
+  pub no-check-left : laws.Left fail t passed [] → Means r passed → Means r t
+  no-check-left left means = subst (Means r) (laws.no-check-left left) means
 
 -- Which of two that differ was picked says what the test gave.
 picked-first : {A : Type 0} (t : Bool) {a b x : A} → (b ≡ x → false ≡ true) → pick t a b ≡ x → (t ≡ true) × (a ≡ x)

@@ -1,12 +1,13 @@
--- Laws of commands and of their checks: what a control code asks for, when the checks are passed, and what those of 14 say.
+-- Laws of commands and of their checks: what a control code asks for, how the checks fail, and what those of 14 say.
 use Prim.Native.Nat.{ℕ, _≤_}
 use mathlib.Core.Path.{_≡_, refl}
-use mathlib.Core.List.{List, [], _∷_}
+use mathlib.Core.List.{List}
 use mathlib.Core.Bool.{Bool, true, false, false≢true, and-eq-true-iff}
 use lib.ListN.{length}
 use lib.Dec.{leb, eqb}
 use borrow.Author.Tests.{leb-true, le-leb, eqb-true, eq-eqb}
 use Rattle.frame.specs.Refusals.{silentByRule}
+use Rattle.item.specs.ChecksLaws.{AllHold, EachFailure}
 use Rattle.item.specs.Content.{isAllowed, within}
 use Rattle.item.specs.ContentLaws.{Range, content-allowed}
 use Rattle.item.specs.Decimal.{Decimal}
@@ -21,7 +22,7 @@ use Rattle.item.specs.declared.table.Lookup.{Lookup}
 use Rattle.item.specs.declared.table.Lookup.the-variants.{Listed, NotListed}
 use Rattle.meter.specs.Meter.{passwordAt}
 use Rattle.meter.specs.Request.{commandOf, controlFor, identifierOf, itemAsked, levelOf, passwordOf, writtenValue}
-use Rattle.meter.specs.Answer.{Treatment, Failure, errorByte, silence, Check, failed, firstFailing, isListed, isWritable, hasContent, authorised, checksOf}
+use Rattle.meter.specs.Answer.{Failure, errorByte, silence, isListed, isWritable, hasContent, authorised, checksOf}
 use Rattle.meter.specs.declared.Meter.{Meter}
 use Rattle.meter.specs.declared.request.Command.{Command}
 use Rattle.meter.specs.declared.request.Command.the-variants.{ReadData, ReadAddress, WriteData, WriteAddress, ChangePassword}
@@ -54,30 +55,6 @@ asks control =
 -- Two commands of one control code are the same.
 pub same-control : (command another : Command) → controlFor command ≡ controlFor another → command ≡ another
 same-control command another e = cc (command-known command, command-known another)
-
--- Every check of a list holds.
-abbrev pub AllHold : List Check → Type 0
-AllHold [] = Unit
-AllHold (c ∷ checks) = (c .holds ≡ true) × AllHold checks
-
--- What holds of the failure of every check.
-abbrev pub EachFailure : (Failure → Type 0) → List Check → Type 0
-EachFailure P [] = Unit
-EachFailure P (c ∷ checks) = P (c .failure) × EachFailure P checks
-
--- The checks are passed where every one holds; else the failure of one of them answers.
-module _ (command : Command) (m : Meter) (passed : Treatment) where
-  pub all-pass : (checks : List Check) → AllHold checks → firstFailing command m checks passed ≡ passed
-  unfolding firstFailing
-  all-pass [] h = refl
-  all-pass (c ∷ checks) h = rw (h .0) (all-pass checks (h .1))
-
-  pub pass-or-fail : (P : Treatment → Type 0) (Q : Failure → Type 0) (checks : List Check) → EachFailure Q checks
-      → (AllHold checks → P passed) → ((f : Failure) → Q f → P (failed command m f)) → P (firstFailing command m checks passed)
-  unfolding firstFailing
-  pass-or-fail P Q [] h pass fail = pass tt
-  pass-or-fail P Q (c ∷ checks) h pass fail =
-      pick-cases P (c .holds) (λ e. pass-or-fail P Q checks (h .1) (λ all. pass (e, all)) fail) (λ e. fail (c .failure) (h .0))
 
 -- A failing 13 or 15 is silent by rule, any other command is answered with an error byte.
 abbrev pub failsSilently : Command → Bool

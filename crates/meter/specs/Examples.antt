@@ -6,6 +6,7 @@ use lib.ListN.{replicate}
 use Rattle.frame.specs.Examples.{one, caseA, caseC, caseE}
 use Rattle.frame.specs.Frame.{total, checksumOf, masked, unmasked, summed, frameOf, addressOf, controlOf, lengthOf, fieldOf, dataOf}
 use Rattle.frame.specs.Writing.{frameFor}
+use Rattle.item.specs.Checks.{firstFailing}
 use Rattle.item.specs.Content.{digitsAt, within, minutesInRange, inRange, contentOf}
 use Rattle.item.specs.Decimal.{isDecimal, firstBadFrom, firstBad, digits, lowDigits, packed}
 use Rattle.item.specs.Reply.{controlCode, replyTo}
@@ -16,7 +17,7 @@ use Rattle.energy.specs.Energies.{Rows, zeroRows, readingAt}
 use Rattle.meter.specs.Columns.{columnBytes, columnsBytes}
 use Rattle.meter.specs.Meter.{withPart, withKey, passwordAt, placeOf, heldAt, valueHeld, withValue, freshMeter}
 use Rattle.meter.specs.Request.{commandOf, addressed, identifierOf, itemAsked, levelOf, passwordOf, operatorOf, writtenValue}
-use Rattle.meter.specs.Answer.{replies, firstFailing, authorised, checksOf, replyData, meterAfter, carriedOut, treated}
+use Rattle.meter.specs.Answer.{replies, authorised, checksOf, replyData, meterAfter, carriedOut, treated}
 
 -- A forward total of 123456.78 kWh.
 abbrev forward : Rows

@@ -12,6 +12,7 @@ use Rattle.frame.specs.Memory.{outcome, over}
 use Rattle.frame.specs.Frame.{Frame, Bytes, addressOf, controlOf, dataOf}
 use Rattle.frame.specs.FrameLaws.{frame-for, address-back, control-back, data-back}
 use Rattle.frame.specs.Writing.{frameFor}
+use Rattle.item.specs.ChecksLaws.{AllHold}
 use Rattle.item.specs.ContentLaws.{Range}
 use Rattle.item.specs.Decimal.{Decimal}
 use Rattle.item.specs.Reply.{controlCode, replyTo}
@@ -25,7 +26,7 @@ use Rattle.meter.specs.MeterLaws.{noted-value, value-length, value-back,
 use Rattle.meter.specs.Ranges.{InRanges}
 use Rattle.meter.specs.Request.{controlFor, addressed, identifierOf, itemAsked, levelOf, passwordOf, operatorOf, writtenValue}
 use Rattle.meter.specs.Answer.{checksOf, withItem, replyData, meterAfter, answeredWith, delivered, answered}
-use Rattle.meter.specs.CommandLaws.{AllHold, WriteHolds, write-holds, holds-write, same-control}
+use Rattle.meter.specs.CommandLaws.{WriteHolds, write-holds, holds-write, same-control}
 use Rattle.meter.specs.AfterLaws.{only-registers-of, sized-after, ranges-after, address-kept}
 use Rattle.meter.specs.AnswerLaws.{data-bytes, Reaches, answered-normal, not-replied, reply-control, Answers, refuses, errs, carries, answers}
 use Rattle.meter.specs.declared.Meter.{Meter}

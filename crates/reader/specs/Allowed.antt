@@ -5,8 +5,8 @@ use mathlib.Core.List.{List, [], _∷_}
 use mathlib.Core.Bool.{Bool, true, false, _||_}
 use lib.ListN.{length, take}
 use lib.Dec.{leb, eqb}
-use Rattle.frame.specs.Memory.{pick}
 use Rattle.item.specs.Address.{isGood, isShort}
+use Rattle.item.specs.Checks.{Check, check, firstFailing}
 use Rattle.item.specs.Content.{inRange}
 use Rattle.item.specs.Decimal.{allDecimal}
 use Rattle.item.specs.Table.{itemOf}
@@ -32,51 +32,39 @@ pub record Sized (request : Request) : Type 0 where
 unfoldable pub requestValue : Request → List ℕ
 requestValue request = take (request .count) (request .value)
 
--- A condition of document 01, with the cause of the refusal where it does not hold.
-pub record Condition : Type 0 where
-  pub holds : Bool
-  pub cause : Cause
-
-abbrev condition : Bool → Cause → Condition
-condition holds cause = record { holds = holds; cause = cause }
-
--- The first condition that does not hold refuses.
-unfoldable pub firstCause : List Condition → Admission
-firstCause [] = Allowed
-firstCause (c ∷ conditions) = pick (c .holds) (firstCause conditions) (Refused (c .cause))
-
 -- What is asked of a listed item; nothing else is listed.
-abbrev pub ofItem : Lookup → (Item → List Condition) → List Condition
+abbrev pub ofItem : Lookup → (Item → List (Check Cause)) → List (Check Cause)
 ofItem (Listed item) conditions = conditions item
-ofItem NotListed conditions = condition false cause.NotListed ∷ []
+ofItem NotListed conditions = check false cause.NotListed ∷ []
 
 -- A read may go to a good address, or to a short one with 1 to 5 decimal low bytes and AA above.
 unfoldable pub addressAllowed : List ℕ → Bool
 addressAllowed address = isGood address || isShort address
 
 -- A write of a listed item: only of a writable one, level 00..09, length and content as the meter checks them.
-unfoldable pub valueConditions : Request → Item → List Condition
+unfoldable pub valueConditions : Request → Item → List (Check Cause)
 valueConditions request item =
-    condition (item .writable) cause.NotWritable
-    ∷ condition (leb (request .level) 9) cause.Level
-    ∷ condition (leb (request .count) 38) cause.Length
-    ∷ condition (eqb (request .count) (item .length)) cause.Length
-    ∷ condition (allDecimal (requestValue request)) cause.NotDecimal
-    ∷ condition (inRange (item .kind) (requestValue request)) cause.OutOfRange
+    check (item .writable) cause.NotWritable
+    ∷ check (leb (request .level) 9) cause.Level
+    ∷ check (leb (request .count) 38) cause.Length
+    ∷ check (eqb (request .count) (item .length)) cause.Length
+    ∷ check (allDecimal (requestValue request)) cause.NotDecimal
+    ∷ check (inRange (item .kind) (requestValue request)) cause.OutOfRange
     ∷ []
 
--- The conditions of each action, in their order. Read address has none.
-unfoldable pub conditionsOf : Action → Request → List Condition
+-- The conditions of each action, in their order, each with the cause of the refusal where it does not hold. Read address has none.
+unfoldable pub conditionsOf : Action → Request → List (Check Cause)
 conditionsOf ReadData request =
-    condition (addressAllowed (request .address)) cause.Address
+    check (addressAllowed (request .address)) cause.Address
     ∷ ofItem (itemOf (request .identifier)) (λ item. [])
 conditionsOf ReadAddress request = []
 conditionsOf WriteData request =
-    condition (isGood (request .address)) cause.Address
+    check (isGood (request .address)) cause.Address
     ∷ ofItem (itemOf (request .identifier)) (valueConditions request)
 
+-- The first condition that does not hold refuses.
 unfoldable pub admission : Request → Admission
-admission request = firstCause (conditionsOf (request .action) request)
+admission request = firstFailing Refused (conditionsOf (request .action) request) Allowed
 
 abbrev pub isAdmitted : Admission → Bool
 isAdmitted Allowed = true

@@ -1,12 +1,13 @@
 -- What an allowed request has: each condition of its action holds.
 use Prim.Native.Nat.{ℕ, _≤_}
 use mathlib.Core.Path.{_≡_, refl, ap, sym, _∙_}
-use mathlib.Core.List.{List, [], _∷_}
+use mathlib.Core.List.{List, []}
 use mathlib.Core.Bool.{Bool, true, false, false≢true}
 use borrow.Author.Tests.{leb-true, eqb-true}
 use Rattle.frame.specs.Memory.{pick}
-use Rattle.frame.specs.MemoryLaws.{pick-cases}
 use Rattle.item.specs.Address.{isGood}
+use Rattle.item.specs.Checks.{Check, firstFailing}
+use Rattle.item.specs.ChecksLaws.{AllHold, pass-or-any}
 use Rattle.item.specs.Content.{inRange, afterScan, contentOf}
 use Rattle.item.specs.Decimal.{firstBad, foundNone, allDecimal}
 use Rattle.item.specs.Table.{itemOf}
@@ -18,11 +19,12 @@ use Rattle.item.specs.declared.table.Item.{Item}
 use Rattle.item.specs.declared.table.Kind.{Kind}
 use Rattle.item.specs.declared.table.Lookup.{Lookup}
 use Rattle.item.specs.declared.table.Lookup.the-variants.{Listed, NotListed}
-use Rattle.reader.specs.Allowed.{Condition, requestValue, firstCause, ofItem, addressAllowed, valueConditions, conditionsOf}
+use Rattle.reader.specs.Allowed.{requestValue, ofItem, addressAllowed, valueConditions, conditionsOf}
 use Rattle.reader.specs.Allowed.{admission, isAdmitted, isAllowed}
 use Rattle.reader.specs.declared.Action.{Action}
 use Rattle.reader.specs.declared.Action.the-variants.{ReadData, WriteData}
 use Rattle.reader.specs.declared.Request.{Request}
+use Rattle.reader.specs.declared.allowed.Cause.{Cause}
 use Rattle.reader.specs.declared.allowed.Cause.the-variants as cause
 use Rattle.reader.specs.declared.allowed.Admission.{Admission}
 use Rattle.reader.specs.declared.allowed.Admission.the-variants.{Allowed, Refused}
@@ -56,32 +58,23 @@ content-holds kind value = scanned (firstBad value) (inRange kind value)
     scanned (BadAt i) ranges h k = absurd (false≢true h)
 
 -- A request is admitted by the conditions of its action.
-pub admission-of : (request : Request) {action : Action} → request .action ≡ action → admission request ≡ firstCause (conditionsOf action request)
+pub admission-of : (request : Request) {action : Action} → request .action ≡ action
+    → admission request ≡ firstFailing Refused (conditionsOf action request) Allowed
 unfolding admission
-admission-of request e = ap (λ (a : Action). firstCause (conditionsOf a request)) e
-
--- Every condition holds.
-abbrev Hold : List Condition → Type 0
-Hold [] = Unit
-Hold (c ∷ conditions) = (c .holds ≡ true) × Hold conditions
+admission-of request e = ap (λ (a : Action). firstFailing Refused (conditionsOf a request) Allowed) e
 
 -- What is admitted meets every condition.
-all-hold : (conditions : List Condition) → isAdmitted (firstCause conditions) ≡ true → Hold conditions
-unfolding firstCause
-all-hold [] h = tt
-all-hold (c ∷ conditions) h =
-    pick-cases (λ admitted. isAdmitted admitted ≡ true → Hold (c ∷ conditions)) (c .holds)
-    (λ e k. (e, all-hold conditions k))
-    (λ e k. absurd (false≢true k))
-    h
+all-hold : (conditions : List (Check Cause)) → isAdmitted (firstFailing Refused conditions Allowed) ≡ true → AllHold conditions
+all-hold conditions =
+    pass-or-any Refused Allowed (λ admitted. isAdmitted admitted ≡ true → AllHold conditions) conditions (λ all k. all) (λ c k. absurd (false≢true k))
 
-allowed-hold : (request : Request) {action : Action} → isAllowed request ≡ true → request .action ≡ action → Hold (conditionsOf action request)
+allowed-hold : (request : Request) {action : Action} → isAllowed request ≡ true → request .action ≡ action → AllHold (conditionsOf action request)
 unfolding isAllowed
 allowed-hold request {action} h e = all-hold (conditionsOf action request) (ap isAdmitted (sym (admission-of request e)) ∙ h)
 
 -- Where the conditions of a listed item hold, there is one.
-listed-hold : (lookup : Lookup) (conditions : Item → List Condition) → Hold (ofItem lookup conditions)
-    → (item : Item) × (lookup ≡ Listed item) × Hold (conditions item)
+listed-hold : (lookup : Lookup) (conditions : Item → List (Check Cause)) → AllHold (ofItem lookup conditions)
+    → (item : Item) × (lookup ≡ Listed item) × AllHold (conditions item)
 listed-hold (Listed item) conditions h = (item, refl, h)
 listed-hold NotListed conditions h = absurd (false≢true (h .0))
 

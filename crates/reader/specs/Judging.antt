@@ -9,6 +9,7 @@ use Rattle.frame.specs.Refusals.{shortMemory, notOneFrame, notAllowed, notAnAns
 use Rattle.frame.specs.Frame.{addressOf, controlOf, dataOf}
 use Rattle.frame.specs.Recognition.{exactlyOne}
 use Rattle.item.specs.Address.{isGood, isShort, shortMatches}
+use Rattle.item.specs.Checks.{Check, check, firstFailing}
 use Rattle.item.specs.Decimal.{allDecimal}
 use Rattle.item.specs.Reply.{replyTo}
 use Rattle.item.specs.Same.{same}
@@ -20,19 +21,6 @@ use Rattle.reader.specs.declared.Action.the-variants.{ReadData, ReadAddr
 use Rattle.reader.specs.declared.Request.{Request}
 use Rattle.reader.specs.declared.Judgement.{Judgement}
 use Rattle.reader.specs.declared.Judgement.the-variants.{Value, Error, Refused}
-
--- A check of document 01, with the number of the refusal where it fails.
-pub record Check : Type 0 where
-  pub holds : Bool
-  pub refusal : ℕ
-
-abbrev check : Bool → ℕ → Check
-check holds refusal = record { holds = holds; refusal = refusal }
-
--- The first failing check refuses.
-unfoldable pub firstRefusal : List Check → Judgement → Judgement
-firstRefusal [] passed = passed
-firstRefusal (c ∷ checks) passed = pick (c .holds) (firstRefusal checks passed) (Refused (c .refusal))
 
 -- Whether an action may be answered by an error reply: there is no D3.
 abbrev pub mayFail : Action → Bool
@@ -59,8 +47,8 @@ isAnswer request bytes =
     (isNormal (request .action) (controlOf bytes) || isError (request .action) (controlOf bytes))
     && answersFrom (request .action) (request .address) (addressOf bytes)
 
--- The checks of every reply.
-unfoldable pub firstChecks : Request → List ℕ → List ℕ → List Check
+-- The checks of every reply, each with the number of the refusal where it fails.
+unfoldable pub firstChecks : Request → List ℕ → List ℕ → List (Check ℕ)
 firstChecks request bytes memory =
     check (leb 196 (length memory)) shortMemory
     ∷ check (isAllowed request) notAllowed
@@ -69,11 +57,11 @@ firstChecks request bytes memory =
     ∷ []
 
 -- The check of an error reply's data.
-unfoldable pub errorChecks : List ℕ → List Check
+unfoldable pub errorChecks : List ℕ → List (Check ℕ)
 errorChecks meant = check (eqb (length meant) 1) malformed ∷ []
 
 -- The checks of a normal reply's data. A 93 repeats its own address, a good one.
-unfoldable pub normalChecks : Action → ℕ → List ℕ → List ℕ → List Check
+unfoldable pub normalChecks : Action → ℕ → List ℕ → List ℕ → List (Check ℕ)
 normalChecks ReadData identifier from meant =
     check (leb 4 (length meant)) malformed
     ∷ check (same (take 4 meant) (identifierBytes identifier)) notAnAnswer
@@ -103,12 +91,12 @@ replyValue action meant = drop (valueStart action) meant
 unfoldable pub verdict : Action → ℕ → ℕ → List ℕ → List ℕ → Judgement
 verdict action identifier control from meant =
     pick (isError action control)
-    (firstRefusal (errorChecks meant) (Error (getD meant 0 0)))
-    (firstRefusal (normalChecks action identifier from meant) (Value (length (replyValue action meant))))
+    (firstFailing Refused (errorChecks meant) (Error (getD meant 0 0)))
+    (firstFailing Refused (normalChecks action identifier from meant) (Value (length (replyValue action meant))))
 
 unfoldable pub judgementOf : Request → List ℕ → List ℕ → Judgement
 judgementOf request bytes memory =
-    firstRefusal (firstChecks request bytes memory)
+    firstFailing Refused (firstChecks request bytes memory)
     (verdict (request .action) (request .identifier) (controlOf bytes) (addressOf bytes) (dataOf bytes))
 
 -- Only a value is written, over the front of the lent memory.

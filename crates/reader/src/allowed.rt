@@ -9,7 +9,8 @@ use item::table::Item;
 use item::table::Lookup;
 use item::table::item_of;
 ghost use mathlib.Core.Path.{_≡_};
-ghost use Rattle.reader.specs.Allowed.{addressAllowed, firstCause, conditionsOf, valueConditions, admission};
+ghost use Rattle.item.specs.Checks.{firstFailing};
+ghost use Rattle.reader.specs.Allowed.{addressAllowed, conditionsOf, valueConditions, admission};
 
 // Why a request is not allowed.
 pub enum Cause {
@@ -39,7 +40,7 @@ fn is_readable(address: [u8; 6]) -> bool
 
 // A read: the address, then the identifier.
 fn read_admission(request: Request) -> Admission
-    ensures { λ r. ⌜ r ≡ firstCause (conditionsOf Action.ReadData request) ⌝ }
+    ensures { λ r. ⌜ r ≡ firstFailing Admission.Refused (conditionsOf Action.ReadData request) Admission.Allowed ⌝ }
 {
     let address = request.address;
     if !is_readable(address) {
@@ -53,7 +54,7 @@ fn read_admission(request: Request) -> Admission
 
 // What is left of a write of a listed item: writable, the level, the value's length, then its content, decimal before ranges.
 fn value_admission(request: Request, item: Item) -> Admission
-    ensures { λ r. ⌜ r ≡ firstCause (valueConditions request item) ⌝ }
+    ensures { λ r. ⌜ r ≡ firstFailing Admission.Refused (valueConditions request item) Admission.Allowed ⌝ }
 {
     if !item.writable {
         return Admission::Refused(Cause::NotWritable);
@@ -80,7 +81,7 @@ fn value_admission(request: Request, item: Item) -> Admission
 
 // A write: a good address, the identifier, and what is left.
 fn write_admission(request: Request) -> Admission
-    ensures { λ r. ⌜ r ≡ firstCause (conditionsOf Action.WriteData request) ⌝ }
+    ensures { λ r. ⌜ r ≡ firstFailing Admission.Refused (conditionsOf Action.WriteData request) Admission.Allowed ⌝ }
 {
     let address = request.address;
     if !is_good(address) {

@@ -16,7 +16,8 @@ use item::table::item_of;
 ghost use mathlib.Core.Path.{_≡_};
 ghost use mathlib.Core.List.{[]};
 ghost use lib.ListN.{length, getD, drop};
-ghost use Rattle.reader.specs.Judging.{isNormal, isError, mayFail, answersFrom, firstRefusal, errorChecks, normalChecks, valueStart, verdict};
+ghost use Rattle.item.specs.Checks.{firstFailing};
+ghost use Rattle.reader.specs.Judging.{isNormal, isError, mayFail, answersFrom, errorChecks, normalChecks, valueStart, verdict};
 
 // Whether an action may be answered by an error reply: there is no D3.
 fn may_fail(action: Action) -> bool
@@ -72,7 +73,7 @@ pub(crate) fn answers_from(action: Action, address: [u8; 6], from: [u8; 6]) -> b
 
 // An error reply: L 1, and its byte.
 fn judge_error(meant: &[u8]) -> Judgement
-    ensures { λ r. ⌜ r ≡ firstRefusal (errorChecks (now (meant .entry))) (Judgement.Error (getD (now (meant .entry)) 0 0)) ⌝ }
+    ensures { λ r. ⌜ r ≡ firstFailing Judgement.Refused (errorChecks (now (meant .entry))) (Judgement.Error (getD (now (meant .entry)) 0 0)) ⌝ }
 {
     if meant.len() != 1 {
         return Judgement::Refused(MALFORMED);
@@ -82,7 +83,7 @@ fn judge_error(meant: &[u8]) -> Judgement
 
 // A 91: L of at least 4, the identifier, the value's length, every half byte.
 fn judge_read(identifier: u32, meant: &[u8]) -> Judgement
-    ensures { λ r. ⌜ r ≡ firstRefusal (normalChecks Action.ReadData identifier [] (now (meant .entry))) (Judgement.Value (length (drop 4 (now (meant .entry))))) ⌝ }
+    ensures { λ r. ⌜ r ≡ firstFailing Judgement.Refused (normalChecks Action.ReadData identifier [] (now (meant .entry))) (Judgement.Value (length (drop 4 (now (meant .entry))))) ⌝ }
 {
     if meant.len() < 4 {
         return Judgement::Refused(MALFORMED);
@@ -106,7 +107,7 @@ fn judge_read(identifier: u32, meant: &[u8]) -> Judgement
 
 // A 93: L 6, every half byte, its own address repeated, a good one.
 fn judge_address(from: [u8; 6], meant: &[u8]) -> Judgement
-    ensures { λ r. ⌜ r ≡ firstRefusal (normalChecks Action.ReadAddress 0 from (now (meant .entry))) (Judgement.Value (length (now (meant .entry)))) ⌝ }
+    ensures { λ r. ⌜ r ≡ firstFailing Judgement.Refused (normalChecks Action.ReadAddress 0 from (now (meant .entry))) (Judgement.Value (length (now (meant .entry)))) ⌝ }
 {
     if meant.len() != 6 {
         return Judgement::Refused(MALFORMED);
@@ -125,7 +126,7 @@ fn judge_address(from: [u8; 6], meant: &[u8]) -> Judgement
 
 // A 94: L 0.
 fn judge_written(meant: &[u8]) -> Judgement
-    ensures { λ r. ⌜ r ≡ firstRefusal (normalChecks Action.WriteData 0 [] (now (meant .entry))) (Judgement.Value (length (now (meant .entry)))) ⌝ }
+    ensures { λ r. ⌜ r ≡ firstFailing Judgement.Refused (normalChecks Action.WriteData 0 [] (now (meant .entry))) (Judgement.Value (length (now (meant .entry)))) ⌝ }
 {
     if meant.len() != 0 {
         return Judgement::Refused(MALFORMED);

@@ -9,14 +9,15 @@ use borrow.Author.Tests.{eqb-true}
 use lib.ListN.{length, take, replicate}
 use lib.Seq.{drop-cons}
 use lib.Dec.{eqb}
+use Rattle.item.specs.ChecksLaws.{all-left, check-holds}
 use Rattle.item.specs.Decimal.{allDecimal}
 use Rattle.meter.specs.Meter.{part}
 use Rattle.meter.specs.MeterLaws.{part-length}
 use Rattle.meter.specs.PartLaws.{copied-front}
 use Rattle.meter.specs.Request.{identifierOf, levelOf, passwordOf, newLevelOf, newPasswordOf}
-use Rattle.meter.specs.Answer.{mayChange, namesPassword, checksOf, replyData, meterAfter}
+use Rattle.meter.specs.Answer.{mayChange, namesPassword, checksOf, replyData, meterAfter, carriedOut}
 use Rattle.meter.specs.Checks.{checkOf}
-use Rattle.meter.specs.ChecksLaws.{check-true, check-false, Passed, all-left, check-holds, check-fails, no-check-left, password-parsed, password-wrong, named-level}
+use Rattle.meter.specs.ChecksLaws.{check-true, check-false, Passed, check-fails, no-check-left, password-parsed, password-wrong, named-level}
 use Rattle.meter.specs.declared.Meter.{Meter}
 use Rattle.meter.specs.declared.request.Command.the-variants.{ChangePassword}
 use Rattle.meter.proofs.password.change_password.Statement.{statement}
@@ -56,7 +57,7 @@ parsed : (c : tie.After-known-told) →
 parsed c = password-parsed _ (sym (c .before .before .before .password-request .ensures) ∙ c .before .identifier .given .1)
 
 right-length : (c : tie.After-known-told) → Held c 1
-unfolding checksOf
+unfolding carriedOut checksOf
 right-length c = check-holds all-left (parsed c .0)
 
 twelve : (c : tie.After-known-told) → length (meant c) ≡ 12
@@ -129,7 +130,7 @@ error-requires : tie.Need-error-requires
 error-requires c κs = search needs
 
 returns : tie.Need-returns
-unfolding checksOf
+unfolding carriedOut checksOf
 returns c =
     let told = c .before in
     check-fails all-left (password-wrong _ (sym (told .before .before .password-request .ensures) ∙ told .enum-told .given .1)) (c .error .ensures)

@@ -7,9 +7,10 @@ use borrow.Author.Needs.{needs}
 use lib.ListN.{length, take, drop, replicate}
 use lib.Seq.{take-at}
 use Rattle.frame.specs.MemoryLaws.{copied}
+use Rattle.item.specs.ChecksLaws.{all-left, check-holds}
 use Rattle.meter.specs.Meter.{Sized}
-use Rattle.meter.specs.Answer.{checksOf, replyData, meterAfter}
-use Rattle.meter.specs.ChecksLaws.{check-true, check-false, all-left, check-holds, check-fails, no-check-left}
+use Rattle.meter.specs.Answer.{checksOf, replyData, meterAfter, carriedOut}
+use Rattle.meter.specs.ChecksLaws.{check-true, check-false, check-fails, no-check-left}
 use Rattle.meter.proofs.read.read_address.Statement.{statement}
 use Rattle.meter.proofs.read.read_address.Tie as tie
 
@@ -30,7 +31,7 @@ silence-requires : tie.Need-silence-requires
 silence-requires c κs = search needs
 
 returns : tie.Need-returns
-unfolding checksOf
+unfolding carriedOut checksOf
 returns c =
     let tested = c .before .before .before in
     check-fails all-left (check-false _ (sym (tested .has-length .ensures) ∙ c .before .enum-told2 .given .1)) (c .silence .ensures)
@@ -48,7 +49,7 @@ reply-requires : tie.Need-reply-requires
 reply-requires c κs = search needs
 
 returns-2 : tie.Need-returns-2
-unfolding checksOf replyData meterAfter
+unfolding carriedOut checksOf replyData meterAfter
 returns-2 c =
     let told = c .before .before .before .before .before .before in
     let tested = told .before .before in

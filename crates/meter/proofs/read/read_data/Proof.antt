@@ -12,6 +12,7 @@ use lib.Seq.{take-all}
 use lib.Dec.{eqb}
 use Rattle.frame.specs.Memory.{over}
 use Rattle.frame.specs.MemoryLaws.{copied, over-length}
+use Rattle.item.specs.ChecksLaws.{all-left, check-holds}
 use Rattle.item.specs.Table.{itemOf}
 use Rattle.item.specs.TableLaws.{listed-most}
 use Rattle.item.specs.declared.table.Item.{Item}
@@ -19,10 +20,10 @@ use Rattle.item.specs.declared.table.Lookup.{Lookup}
 use Rattle.item.specs.declared.table.Lookup.the-variants.{Listed}
 use Rattle.meter.specs.Meter.{Sized, valueHeld}
 use Rattle.meter.specs.Request.{identifierOf, itemAsked}
-use Rattle.meter.specs.Answer.{isListed, checksOf, replyData, meterAfter}
+use Rattle.meter.specs.Answer.{isListed, checksOf, replyData, meterAfter, carriedOut}
 use Rattle.meter.specs.JoinLaws.{front-of-two}
 use Rattle.meter.specs.MeterLaws.{listed-lies, value-length}
-use Rattle.meter.specs.ChecksLaws.{read-parsed, read-wrong, all-left, check-holds, check-fails, no-check-left}
+use Rattle.meter.specs.ChecksLaws.{read-parsed, read-wrong, check-fails, no-check-left}
 use Rattle.meter.proofs.read.read_data.Statement.{statement}
 use Rattle.meter.proofs.read.read_data.Tie as tie
 
@@ -82,7 +83,7 @@ error-requires : tie.Need-error-requires
 error-requires c κs = search needs
 
 returns : tie.Need-returns
-unfolding checksOf
+unfolding carriedOut checksOf
 returns c =
     let told = c .before in
     check-fails all-left (read-wrong _ (sym (told .before .before .read-request .ensures) ∙ told .enum-told .given .1)) (c .error .ensures)
@@ -100,7 +101,7 @@ error-requires-2 : tie.Need-error-requires-2
 error-requires-2 c κs = search needs
 
 returns-2 : tie.Need-returns-2
-unfolding checksOf
+unfolding carriedOut checksOf
 returns-2 c =
     let told = c .before in
     let found = told .before .before in
@@ -135,7 +136,7 @@ reply-requires : tie.Need-reply-requires
 reply-requires c κs = omega (arith, most (c .before .before .before .before .before .before .before .before))
 
 returns-3 : tie.Need-returns-3
-unfolding checksOf replyData meterAfter
+unfolding carriedOut checksOf replyData meterAfter
 returns-3 c =
     let i = c .before .before .before .before .before .before .before .before .before in
     let found = i .before .before in

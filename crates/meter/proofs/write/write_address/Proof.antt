@@ -9,9 +9,10 @@ use borrow.Author.Tests.{eqb-true}
 use lib.ListN.{length, replicate}
 use lib.Dec.{eqb}
 use Rattle.item.specs.Address.{isGood}
-use Rattle.meter.specs.Answer.{checksOf, replyData, meterAfter}
+use Rattle.item.specs.ChecksLaws.{all-left, check-holds}
+use Rattle.meter.specs.Answer.{checksOf, replyData, meterAfter, carriedOut}
 use Rattle.meter.specs.Checks.{checkOf}
-use Rattle.meter.specs.ChecksLaws.{check-true, check-false, Passed, all-left, check-holds, check-fails, no-check-left}
+use Rattle.meter.specs.ChecksLaws.{check-true, check-false, Passed, check-fails, no-check-left}
 use Rattle.meter.specs.PartLaws.{copied-whole}
 use Rattle.meter.specs.declared.request.Command.the-variants.{WriteAddress}
 use Rattle.meter.proofs.write.write_address.Statement.{statement}
@@ -40,7 +41,7 @@ has-six : (c : tie.After-enum-told) → eqb (length (meant c)) 6 ≡ true
 has-six c = check-true _ (sym (c .before .before .has-length .ensures) ∙ c .enum-told .given .1)
 
 right-length : (c : tie.After-enum-told) → Held c 1
-unfolding checksOf
+unfolding carriedOut checksOf
 right-length c = check-holds all-left (has-six c)
 
 six : (c : tie.After-enum-told) → length (meant c) ≡ 6
@@ -71,7 +72,7 @@ silence-requires : tie.Need-silence-requires
 silence-requires c κs = search needs
 
 returns : tie.Need-returns
-unfolding checksOf
+unfolding carriedOut checksOf
 returns c =
     let told = c .before in
     check-fails all-left (check-false _ (sym (told .before .before .has-length .ensures) ∙ told .enum-told2 .given .1)) (c .silence .ensures)

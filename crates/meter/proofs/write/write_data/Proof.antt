@@ -12,6 +12,7 @@ use borrow.Rule.Slice.PartAt.{part-to-end}
 use types.Run.{OneOf}
 use denote.Enum.Declared.{tagOf}
 use lib.ListN.{length, take, drop}
+use Rattle.item.specs.ChecksLaws.{all-left, check-holds}
 use Rattle.item.specs.Content.{within, isAllowed}
 use Rattle.item.specs.Table.{itemOf, hasLength}
 use Rattle.item.specs.declared.content.Content.{Content}
@@ -21,9 +22,9 @@ use Rattle.item.specs.declared.table.Lookup.the-variants.{Listed}
 use Rattle.item.proofs.content.Content.{the-type}
 use Rattle.meter.specs.Meter.{noted, withValue}
 use Rattle.meter.specs.Request.{identifierOf, itemAsked, levelOf, passwordOf, operatorOf, writtenValue}
-use Rattle.meter.specs.Answer.{isListed, isWritable, hasContent, authorised, checksOf, replyData, meterAfter}
+use Rattle.meter.specs.Answer.{isListed, isWritable, hasContent, authorised, checksOf, replyData, meterAfter, carriedOut}
 use Rattle.meter.specs.Checks.{checkOf}
-use Rattle.meter.specs.ChecksLaws.{check-true, check-false, Passed, all-left, check-holds, check-fails, no-check-left, write-parsed, write-wrong}
+use Rattle.meter.specs.ChecksLaws.{check-true, check-false, Passed, check-fails, no-check-left, write-parsed, write-wrong}
 use Rattle.meter.specs.PlaceLaws.{Writes, target-writable}
 use Rattle.meter.specs.declared.Meter.{Meter}
 use Rattle.meter.specs.declared.place.Target.{Target}
@@ -68,7 +69,7 @@ parsed : (c : tie.After-known-told) → (within 12 50 (length (meant c)) ≡ tru
 parsed c = write-parsed _ (sym (c .before .before .before .write-request .ensures) ∙ c .before .identifier .given .1)
 
 right-length : (c : tie.After-known-told) → Held c 1
-unfolding checksOf
+unfolding carriedOut checksOf
 right-length c = check-holds all-left (parsed c .0)
 
 -- what was looked up
@@ -173,7 +174,7 @@ error-requires : tie.Need-error-requires
 error-requires c κs = search needs
 
 returns : tie.Need-returns
-unfolding checksOf
+unfolding carriedOut checksOf
 returns c =
     let told = c .before in
     check-fails all-left (write-wrong _ (sym (told .before .before .write-request .ensures) ∙ told .enum-told .given .1)) (c .error .ensures)

@@ -11,10 +11,12 @@ use lib.Seq.{length-take-le}
 use Rattle.frame.specs.Frame.{addressOf, controlOf, lengthOf, dataOf}
 use Rattle.frame.specs.PartsLaws.{one-spans, one-most, data-length, address-field, data-fits, data-front}
 use Rattle.frame.specs.Recognition.{exactlyOne}
+use Rattle.item.specs.ChecksLaws.{Held, all-left, check-holds, check-fails, no-check-left}
 use Rattle.reader.specs.Allowed.{isAdmitted, isAllowed}
 use Rattle.reader.specs.Judging.{firstChecks, replyValue, verdict, judgementOf}
-use Rattle.reader.specs.JudgingLaws.{Held, all-left, check-holds, check-fails, no-check-left, verdict-fits, judged-by}
+use Rattle.reader.specs.JudgingLaws.{verdict-fits, judged-by}
 use Rattle.reader.specs.declared.Judgement.{Judgement}
+use Rattle.reader.specs.declared.Judgement.the-variants.{Refused}
 use Rattle.reader.specs.declared.Request.{Request}
 use Rattle.reader.proofs.Request.judge.Statement.{statement}
 use Rattle.reader.proofs.Request.judge.Tie as tie
@@ -35,7 +37,7 @@ decision s = verdict (request s .action) (request s .identifier) (controlOf (byt
 
 -- the first `k` checks hold
 abbrev Passed : tie.Start → ℕ → Type 0
-Passed s k = Held (firstChecks (request s) (bytes s) (memory s)) (decision s) k
+Passed s k = Held Refused (firstChecks (request s) (bytes s) (memory s)) (decision s) k
 
 -- the places where one step more is done, back to the start
 abbrev start-of : tie.Else1 → tie.Start

@@ -1,7 +1,8 @@
 -- The conditions are those of the action that was matched.
 use mathlib.Core.Path.{sym, _∙_}
 use borrow.Author.Needs.{needs}
-use Rattle.reader.specs.Allowed.{firstCause, conditionsOf}
+use Rattle.item.specs.Checks.{firstFailing}
+use Rattle.reader.specs.Allowed.{conditionsOf}
 use Rattle.reader.specs.AllowedLaws.{admission-of}
 use Rattle.reader.proofs.allowed.admit.Statement.{statement}
 use Rattle.reader.proofs.allowed.admit.Tie as tie
@@ -25,7 +26,7 @@ returns : tie.Need-returns
 returns c = c .read-admission .ensures ∙ sym (admission-of _ (c .before .enum-told .given .1))
 
 returns-2 : tie.Need-returns-2
-unfolding firstCause conditionsOf
+unfolding firstFailing conditionsOf
 returns-2 c = sym (admission-of (c .before .before .args .request) (c .enum-told2 .given .1))
 
 returns-3 : tie.Need-returns-3

@@ -3,9 +3,10 @@ use mathlib.Core.Path.{_≡_, sym, _∙_}
 use mathlib.Core.Bool.{true}
 use borrow.Author.Needs.{needs}
 use borrow.Author.Tests.{not-true, not-false}
+use Rattle.item.specs.Checks.{firstFailing}
 use Rattle.item.specs.Table.{itemOf}
 use Rattle.item.specs.declared.table.Lookup.{Lookup}
-use Rattle.reader.specs.Allowed.{addressAllowed, firstCause, conditionsOf}
+use Rattle.reader.specs.Allowed.{addressAllowed, conditionsOf}
 use Rattle.reader.proofs.allowed.read_admission.Statement.{statement}
 use Rattle.reader.proofs.allowed.read_admission.Tie as tie
 
@@ -13,7 +14,7 @@ is-readable-requires : tie.Need-is-readable-requires
 is-readable-requires c κs = search needs
 
 returns : tie.Need-returns
-unfolding firstCause conditionsOf
+unfolding firstFailing conditionsOf
 returns c = rw (sym (c .before .is-readable .ensures) ∙ not-true _ (c .if1 .taken))
 
 item-of-requires : tie.Need-item-of-requires
@@ -34,11 +35,11 @@ enum-told-2 : tie.Need-enum-told-2
 enum-told-2 c = search needs
 
 returns-2 : tie.Need-returns-2
-unfolding firstCause conditionsOf
+unfolding firstFailing conditionsOf
 returns-2 c = let at-item = c .before .before in rw (readable (at-item .before), looked-up at-item _ (c .enum-told2 .given .1))
 
 returns-3 : tie.Need-returns-3
-unfolding firstCause conditionsOf
+unfolding firstFailing conditionsOf
 returns-3 c = let at-item = c .before .before in rw (readable (at-item .before), looked-up at-item _ (c .enum-told .given .1))
 
 pub read-admission-spec : {M : Type 1} → statement M

@@ -8,14 +8,16 @@ use borrow.Author.Needs.{needs}
 use borrow.Author.Tests.{not-true, not-false, le-leb, lt-leb, eq-eqb, ne-eqb}
 use lib.ListN.{length}
 use lib.Seq.{length-take-le}
+use Rattle.item.specs.Checks.{firstFailing}
 use Rattle.item.specs.declared.content.Content.{Content}
-use Rattle.reader.specs.Allowed.{requestValue, firstCause, valueConditions}
+use Rattle.reader.specs.Allowed.{requestValue, valueConditions}
 use Rattle.reader.specs.AllowedLaws.{contentAdmission, content-admission}
+use Rattle.reader.specs.declared.allowed.Admission.the-variants.{Allowed, Refused}
 use Rattle.reader.proofs.allowed.value_admission.Statement.{statement}
 use Rattle.reader.proofs.allowed.value_admission.Tie as tie
 
 returns : tie.Need-returns
-unfolding firstCause valueConditions
+unfolding firstFailing valueConditions
 returns c = rw (not-true (c .before .before .args .item .writable) (c .if1 .taken))
 
 -- the conditions that were tested, one after the other
@@ -32,15 +34,15 @@ long : (c : tie.Else4) → let a = c .before .before .before .before .before .be
 long c = c .if4 .left
 
 returns-2 : tie.Need-returns-2
-unfolding firstCause valueConditions
+unfolding firstFailing valueConditions
 returns-2 c = rw (writable (c .before .before), lt-leb _ _ (c .if2 .taken))
 
 returns-3 : tie.Need-returns-3
-unfolding firstCause valueConditions
+unfolding firstFailing valueConditions
 returns-3 c = let at-level = c .before in rw (writable (at-level .before .before), le-leb _ _ (level at-level), lt-leb _ _ (c .if3 .taken))
 
 returns-4 : tie.Need-returns-4
-unfolding firstCause valueConditions
+unfolding firstFailing valueConditions
 returns-4 c =
     let at-few = c .before .before in
     let at-level = at-few .before in
@@ -74,8 +76,8 @@ enum-told-3 c = search needs
 -- behind the other conditions the content decides
 decided : (c : tie.After-content-of) (content : Content) → c .content-of .result ≡ content
     → let a = c .before .before .before .before .before .before .before .before .before .before .args in
-    contentAdmission content ≡ firstCause (valueConditions (a .request) (a .item))
-unfolding firstCause valueConditions requestValue
+    contentAdmission content ≡ firstFailing Refused (valueConditions (a .request) (a .item)) Allowed
+unfolding firstFailing valueConditions requestValue
 decided c content e =
     let at-long = c .before .before .before in
     let at-few = at-long .before .before in

@@ -4,9 +4,10 @@ use mathlib.Core.Bool.{true}
 use borrow.Author.Needs.{needs}
 use borrow.Author.Tests.{not-true, not-false}
 use Rattle.item.specs.Address.{isGood}
+use Rattle.item.specs.Checks.{firstFailing}
 use Rattle.item.specs.Table.{itemOf}
 use Rattle.item.specs.declared.table.Lookup.{Lookup}
-use Rattle.reader.specs.Allowed.{firstCause, conditionsOf}
+use Rattle.reader.specs.Allowed.{conditionsOf}
 use Rattle.reader.proofs.allowed.write_admission.Statement.{statement}
 use Rattle.reader.proofs.allowed.write_admission.Tie as tie
 
@@ -14,7 +15,7 @@ is-good-requires : tie.Need-is-good-requires
 is-good-requires c κs = search needs
 
 returns : tie.Need-returns
-unfolding firstCause conditionsOf
+unfolding firstFailing conditionsOf
 returns c = rw (sym (c .before .is-good .ensures) ∙ not-true _ (c .if1 .taken))
 
 item-of-requires : tie.Need-item-of-requires
@@ -35,14 +36,14 @@ enum-told : tie.Need-enum-told
 enum-told c = search needs
 
 returns-2 : tie.Need-returns-2
-unfolding firstCause conditionsOf
+unfolding firstFailing conditionsOf
 returns-2 c = let at-item = c .before .before in rw (good (at-item .before), looked-up at-item _ (c .enum-told .given .1))
 
 value-admission-requires : tie.Need-value-admission-requires
 value-admission-requires c κs = search needs
 
 returns-3 : tie.Need-returns-3
-unfolding firstCause conditionsOf
+unfolding firstFailing conditionsOf
 returns-3 c =
     let at-match = c .before .before in
     let at-item = at-match .before .before in

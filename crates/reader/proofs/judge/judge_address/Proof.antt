@@ -4,16 +4,16 @@ use mathlib.Core.Path.{ap, sym, _∙_}
 use borrow.Author.Needs.{needs}
 use borrow.Author.Tests.{eq-eqb, ne-eqb, not-true, not-false}
 use lib.ListN.{length}
+use Rattle.item.specs.ChecksLaws.{Held, all-left, check-holds, check-fails, no-check-left}
 use Rattle.reader.specs.Judging.{normalChecks}
-use Rattle.reader.specs.JudgingLaws.{Held, all-left, check-holds, check-fails, no-check-left}
 use Rattle.reader.specs.declared.Action.the-variants.{ReadAddress}
-use Rattle.reader.specs.declared.Judgement.the-variants.{Value}
+use Rattle.reader.specs.declared.Judgement.the-variants.{Value, Refused}
 use Rattle.reader.proofs.judge.judge_address.Statement.{statement}
 use Rattle.reader.proofs.judge.judge_address.Tie as tie
 
 -- the first `k` checks hold
 abbrev Passed : tie.Start → ℕ → Type 0
-Passed s k = Held (normalChecks ReadAddress 0 (s .args .t1) (s .args .meant .now)) (Value (length (s .args .meant .now))) k
+Passed s k = Held Refused (normalChecks ReadAddress 0 (s .args .t1) (s .args .meant .now)) (Value (length (s .args .meant .now))) k
 
 -- the places where one check more has passed, back to the start
 abbrev start-of : tie.Else1 → tie.Start

@@ -1,8 +1,8 @@
 -- The test is the only check.
 use native.Mathlib.Omega.{arith}
 use borrow.Author.Tests.{eq-eqb, ne-eqb}
+use Rattle.item.specs.ChecksLaws.{all-left, check-holds, check-fails, no-check-left}
 use Rattle.reader.specs.Judging.{errorChecks}
-use Rattle.reader.specs.JudgingLaws.{all-left, check-holds, check-fails, no-check-left}
 use Rattle.reader.proofs.judge.judge_error.Statement.{statement}
 use Rattle.reader.proofs.judge.judge_error.Tie as tie
 

@@ -8,15 +8,15 @@ use borrow.Rule.Slice.PartAt.{part-to-end}
 use lib.Dec.{eqb}
 use lib.ListN.{length, take, drop}
 use lib.Seq.{length-take-le}
+use Rattle.item.specs.ChecksLaws.{Held, all-left, check-holds, check-fails, no-check-left}
 use Rattle.item.specs.Decimal.{allDecimal}
 use Rattle.item.specs.Same.{same}
 use Rattle.item.specs.Table.{itemOf, hasLength}
 use Rattle.item.specs.declared.table.Item.{Item}
 use Rattle.reader.specs.Building.{identifierBytes}
 use Rattle.reader.specs.Judging.{normalChecks}
-use Rattle.reader.specs.JudgingLaws.{Held, all-left, check-holds, check-fails, no-check-left}
 use Rattle.reader.specs.declared.Action.the-variants.{ReadData}
-use Rattle.reader.specs.declared.Judgement.the-variants.{Value}
+use Rattle.reader.specs.declared.Judgement.the-variants.{Value, Refused}
 use Rattle.reader.proofs.judge.judge_read.Statement.{statement}
 use Rattle.reader.proofs.judge.judge_read.Tie as tie
 
@@ -29,7 +29,7 @@ value s = drop 4 (meant s)
 
 -- the first `k` checks hold
 abbrev Passed : tie.Start → ℕ → Type 0
-Passed s k = Held (normalChecks ReadData (s .args .identifier) [] (meant s)) (Value (length (value s))) k
+Passed s k = Held Refused (normalChecks ReadData (s .args .identifier) [] (meant s)) (Value (length (value s))) k
 
 -- the places where one check more has passed, back to the start
 abbrev start-of : tie.Else1 → tie.Start

@@ -1,8 +1,8 @@
 -- The test is the only check.
 use mathlib.Core.Path.{ap, sym, _∙_}
 use borrow.Author.Tests.{eq-eqb, ne-eqb}
+use Rattle.item.specs.ChecksLaws.{all-left, check-holds, check-fails, no-check-left}
 use Rattle.reader.specs.Judging.{normalChecks}
-use Rattle.reader.specs.JudgingLaws.{all-left, check-holds, check-fails, no-check-left}
 use Rattle.reader.specs.declared.Judgement.the-variants.{Value}
 use Rattle.reader.proofs.judge.judge_written.Statement.{statement}
 use Rattle.reader.proofs.judge.judge_written.Tie as tie
