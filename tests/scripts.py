@@ -1,4 +1,4 @@
-"""The calls of the script that put frames to the meter, and the helpers that write them."""
+"""The calls of the script that put frames to the meter, and the functions that write them."""
 from wire import REGISTERS, di, frame, hexed
 
 MANUAL = "tests/manual_frames.tsv"
