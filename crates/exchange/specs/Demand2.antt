@@ -10,6 +10,7 @@ use Rattle.meter.specs.Meter.{Sized}
 use Rattle.meter.specs.Ranges.{InRanges}
 use Rattle.meter.specs.declared.Meter.{Meter}
 use Rattle.reader.specs.Allowed.{isAllowed}
+use Rattle.reader.specs.AllowedWords.{AllowedInWords, allowed-words}
 use Rattle.reader.specs.Building.{requestFrame, requestBytes}
 use Rattle.reader.specs.declared.Action.the-variants.{WriteData}
 use Rattle.reader.specs.declared.Request.{Request}
@@ -34,10 +35,11 @@ pub record EndToEnd (request : Request) (m : Meter) (forward reverse : Rows) (le
   pub foreign : (MeantFor request m → ⊥) → GetsSilence request m forward reverse lent
 
 -- Demand 2.
-pub demand-2 : (request : Request) → Typed request → isAllowed request ≡ true → (m : Meter) (forward reverse : Rows) → Sized m
+pub demand-2 : (request : Request) → Typed request → AllowedInWords (request .action) request → (m : Meter) (forward reverse : Rows) → Sized m
     → InRanges m forward reverse → (lent : Memories) → EnoughMemory lent → EndToEnd request m forward reverse lent
 unfolding requestBytes
-demand-2 request typed allowed m forward reverse sized ranges lent room =
+demand-2 request typed words m forward reverse sized ranges lent room =
+    let allowed : isAllowed request ≡ true = allowed-words request (typed .sized) .1 words in
     record {
       heard = λ calls brings called. delivered-last (requestFrame request) (request-frame request typed allowed) calls brings called;
       read = read-gives request typed allowed m forward reverse sized ranges lent room;

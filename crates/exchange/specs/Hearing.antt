@@ -25,20 +25,16 @@ Brings [] (c ∷ calls) = ⊥
 Brings (b ∷ bytes) [] = ⊥
 Brings (b ∷ bytes) (c ∷ calls) = (c .symbol ≡ byte b) × (212 ≤ length (c .lent)) × Brings bytes calls
 
--- A call that delivers nothing, and one that delivers this frame alone; beyond it the memory is as it was.
-pub record DeliversNothing (c : Call) : Type 0 where
-  pub answer : c .returned .answer ≡ Delivered 0 0
-  pub left : c .left ≡ c .lent
-
-pub record DeliversOne (frame : List ℕ) (c : Call) : Type 0 where
-  pub answer : c .returned .answer ≡ Delivered (length frame) 1
-  pub left : c .left ≡ over frame (c .lent)
+-- A call that delivers these bytes, of so many frames; beyond them the memory is as it was.
+pub record Delivers (bytes : List ℕ) (frames : ℕ) (c : Call) : Type 0 where
+  pub answer : c .returned .answer ≡ Delivered (length bytes) frames
+  pub left : c .left ≡ over bytes (c .lent)
 
 -- Nothing with any call but the last, and the frame with the last.
 abbrev pub DeliveredLast : List ℕ → List Call → Type 0
 DeliveredLast frame [] = ⊥
-DeliveredLast frame (c ∷ []) = DeliversOne frame c
-DeliveredLast frame (c ∷ d ∷ calls) = DeliversNothing c × DeliveredLast frame (d ∷ calls)
+DeliveredLast frame (c ∷ []) = Delivers frame 1 c
+DeliveredLast frame (c ∷ d ∷ calls) = Delivers [] 0 c × DeliveredLast frame (d ∷ calls)
 
 -- There are as many calls as bytes.
 brings-length : (bytes : List ℕ) (calls : List Call) → Brings bytes calls → length bytes ≡ length calls

@@ -41,6 +41,14 @@ hasShortForm address = isShortCount (lowBytes address)
 unfoldable pub isShort : List ℕ → Bool
 isShort address = hasShortForm address && allDecimal (take (lowBytes address) address)
 
+-- Document 01's words: 1 to 5 decimal low bytes and AA above.
+pub record ShortAddress (address : List ℕ) : Type 0 where
+  pub k : ℕ
+  pub some : 1 ≤ k
+  pub most : k ≤ 5
+  pub lowest : Decimal (take k address)
+  pub higher : drop k address ≡ replicate (6 - k) 0xAA
+
 -- A short address is meant for a meter whose low bytes are the same.
 unfoldable pub shortMatches : List ℕ → List ℕ → Bool
 shortMatches address own = hasShortForm address && same (take (lowBytes address) address) (take (lowBytes address) own)

@@ -15,7 +15,7 @@ use Rattle.item.specs.Decimal.{Decimal, allDecimal}
 use Rattle.item.specs.DecimalLaws.{all-decimal, decimal-all, decimal-take}
 use Rattle.item.specs.Same.{same}
 use Rattle.item.specs.SameLaws.{same-equal, equal-same}
-use Rattle.item.specs.Address.{broadcast, Good, isGood, lowBytes, isShortCount, hasShortForm, shortMatches, ShortFor}
+use Rattle.item.specs.Address.{broadcast, Good, isGood, lowBytes, isShortCount, hasShortForm, isShort, ShortAddress, shortMatches, ShortFor}
 
 pub good : (address : List ℕ) → isGood address ≡ true → Good address
 unfolding isGood
@@ -63,6 +63,26 @@ low-count (x ∷ []) n h =
 low-count (x ∷ y ∷ xs) n h =
     let some : eqb (suc (length xs)) 0 ≡ false = ne-eqb (suc (length xs)) 0 (λ e. omega arith) in
     rw (low-count (y ∷ xs) n (h .2), some, add-one)
+
+pub short-address : (address : List ℕ) → length address ≡ 6 → isShort address ≡ true → ShortAddress address
+unfolding isShort hasShortForm isShortCount
+short-address address six h =
+    let parts = simp and-eq-true-iff at h in
+    record {
+      k = lowBytes address;
+      some = leb-true _ _ (parts .0 .0);
+      most = leb-true _ _ (parts .0 .1);
+      lowest = all-decimal _ (parts .1);
+      higher = rw (← six) (behind-low address);
+    }
+
+pub is-short : (address : List ℕ) → length address ≡ 6 → ShortAddress address → isShort address ≡ true
+unfolding isShort hasShortForm isShortCount
+is-short address six h =
+    let long : length (take (h .k) address) ≡ h .k = length-take-le (h .k) address (omega arith) in
+    let whole : address ≡ take (h .k) address ++ replicate (6 - h .k) 0xAA = cc (take-append-drop (h .k) address, h .higher) in
+    let low : lowBytes address ≡ h .k = ap lowBytes whole ∙ low-count (take (h .k) address) (6 - h .k) (h .lowest) ∙ long in
+    rw (low, le-leb 1 (h .k) (h .some), le-leb (h .k) 5 (h .most)) (decimal-all (take (h .k) address) (h .lowest))
 
 pub short-for : (address own : List ℕ) → length address ≡ 6 → shortMatches address own ≡ true → ShortFor address own
 unfolding shortMatches hasShortForm isShortCount

@@ -106,7 +106,7 @@ module _ (value : List ℕ) where
   in-range ThirdSettlementDay = settlement-day-range
 
 -- Allowed is what the scan finds nothing in and the ranges hold of.
-after-scan : (scan : Scan) (ranges : Bool) → afterScan scan ranges ≡ Allowed → (scan ≡ AllDecimal) × (ranges ≡ true)
+pub after-scan : (scan : Scan) (ranges : Bool) → afterScan scan ranges ≡ Allowed → (scan ≡ AllDecimal) × (ranges ≡ true)
 after-scan AllDecimal true h = (refl, refl)
 after-scan AllDecimal false h = (refl, ap isAllowed h)
 after-scan (BadAt i) ranges h = absurd (false≢true (ap isAllowed h))

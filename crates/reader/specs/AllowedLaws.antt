@@ -9,6 +9,7 @@ use Rattle.item.specs.Address.{isGood}
 use Rattle.item.specs.Checks.{Check, firstFailing}
 use Rattle.item.specs.ChecksLaws.{AllHold, pass-or-any}
 use Rattle.item.specs.Content.{inRange, afterScan, contentOf}
+use Rattle.item.specs.ContentLaws.{after-scan}
 use Rattle.item.specs.Decimal.{firstBad, foundNone, allDecimal}
 use Rattle.item.specs.Table.{itemOf}
 use Rattle.item.specs.declared.content.Content.{Content}
@@ -56,6 +57,13 @@ content-holds kind value = scanned (firstBad value) (inRange kind value)
     scanned : (scan : Scan) (ranges : Bool) → foundNone scan ≡ true → ranges ≡ true → afterScan scan ranges ≡ content.Allowed
     scanned AllDecimal ranges h k = rw k
     scanned (BadAt i) ranges h k = absurd (false≢true h)
+
+-- And of that both hold.
+pub content-conditions : (kind : Kind) (value : List ℕ) → contentOf kind value ≡ content.Allowed → (allDecimal value ≡ true) × (inRange kind value ≡ true)
+unfolding contentOf allDecimal
+content-conditions kind value h =
+    let both = after-scan (firstBad value) (inRange kind value) h in
+    (ap foundNone (both .0), both .1)
 
 -- A request is admitted by the conditions of its action.
 pub admission-of : (request : Request) {action : Action} → request .action ≡ action

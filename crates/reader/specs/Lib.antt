@@ -1,5 +1,6 @@
 pub mod Allowed
 pub mod AllowedLaws
+pub mod AllowedWords
 pub mod Building
 pub mod BuildingLaws
 pub mod Judging

@@ -3,8 +3,8 @@ use crate::answer::UNTOUCHED;
 use crate::answer::write_changed;
 use crate::asked::write_judgement;
 use crate::listed::write_listed_front;
+use crate::text::write_number;
 use crate::text::write_refused;
-use crate::text::write_silent;
 use energy::Energies;
 use exchange::ExchangeAnswer;
 use exchange::Exchanged;
@@ -47,7 +47,7 @@ fn write_exchanged(done: Exchanged, buffers: Buffers) {
         ExchangeAnswer::Silent(refusal) => {
             write_sent(sent, done.delivered);
             write_listed_front(&heard, done.delivered);
-            write_silent(refusal);
+            write_number(b"silent", refusal);
             write_changed(&reply);
             write_changed(&value);
         }

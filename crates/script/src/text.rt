@@ -119,11 +119,13 @@ pub fn read_numbers(text: &[u8], asked: usize, numbers: &mut [u32; 4]) -> bool {
     count == asked
 }
 
-// The hexadecimal digit of a number below 16.
-fn digit(n: u8) -> u8
-    requires { ⌜ n < 16 ⌝ }
-{
-    if n < 10 { b'0' + n } else { b'A' + (n - 10) }
+// The hexadecimal digit of the low half of a byte.
+fn digit(b: u8) -> u8 {
+    let half = b % 16;
+    if half < 10 {
+        return b'0' + half;
+    }
+    b'A' + (half - 10)
 }
 
 // Writes text.
@@ -133,7 +135,7 @@ pub fn write(text: &[u8]) {
 
 // Writes a byte as a blank and two hexadecimal digits.
 fn write_byte(b: u8) {
-    let text = [b' ', digit(b / 16), digit(b % 16)];
+    let text = [b' ', digit(b / 16), digit(b)];
     write(&text);
 }
 
@@ -148,16 +150,15 @@ pub fn write_bytes(word: &[u8], bytes: &[u8]) {
     write(b"\n");
 }
 
-// Writes that a call was refused, with the refusal's number.
-pub fn write_refused(refusal: u8) {
-    write(b"refused ");
+// Writes a line of a word and a refusal's number.
+pub fn write_number(word: &[u8], refusal: u8) {
+    write(word);
+    write(b" ");
     io::print_decimal(STDOUT_FILENO, refusal as u64);
     write(b"\n");
 }
 
-// Writes that the meter was silent, with its refusal's number.
-pub fn write_silent(refusal: u8) {
-    write(b"silent ");
-    io::print_decimal(STDOUT_FILENO, refusal as u64);
-    write(b"\n");
+// Writes that a call was refused, with the refusal's number.
+pub fn write_refused(refusal: u8) {
+    write_number(b"refused", refusal);
 }

@@ -1,0 +1,128 @@
+-- Document 01's "Allowed" in its own words, and that the conditions of a request say exactly this.
+use Prim.Native.Nat.{ℕ, _≤_}
+use mathlib.Core.Path.{_≡_, refl, ap, _∙_}
+use mathlib.Core.List.{List}
+use mathlib.Core.Bool.{Bool, true, false, _||_, false≢true, or-true}
+use mathlib.Core.Logic.{_↔_}
+use native.Mathlib.Omega.{arith}
+use lib.ListN.{length}
+use borrow.Author.Tests.{le-leb, eq-eqb}
+use Rattle.item.specs.Address.{Good, isGood, ShortAddress, isShort}
+use Rattle.item.specs.AddressLaws.{good, is-good, short-address, is-short}
+use Rattle.item.specs.ChecksLaws.{AllHold, all-pass}
+use Rattle.item.specs.ContentLaws.{Range, content-allowed}
+use Rattle.item.specs.Decimal.{Decimal}
+use Rattle.item.specs.Table.{itemOf, otherRows}
+use Rattle.item.specs.TableLaws.{InRows, listed-rule}
+use Rattle.item.specs.declared.table.Item.{Item}
+use Rattle.item.specs.declared.table.Lookup.the-variants.{Listed}
+use Rattle.reader.specs.Allowed.{Sized, requestValue, addressAllowed, valueConditions, conditionsOf, isAdmitted, isAllowed}
+use Rattle.reader.specs.AllowedLaws.{admission-of, content-conditions, admitted-read, admitted-write}
+use Rattle.reader.specs.declared.Action.{Action}
+use Rattle.reader.specs.declared.Action.the-variants.{ReadData, ReadAddress, WriteData}
+use Rattle.reader.specs.declared.Request.{Request}
+use Rattle.reader.specs.declared.allowed.Admission.the-variants.{Allowed, Refused}
+
+-- An address that a read may go to: a good one, or a short one.
+pub data Readable (address : List ℕ) : Type 0 where
+  full : Good address → Readable address
+  short : ShortAddress address → Readable address
+
+-- A read of a listed identifier, to a good address or a short one.
+pub record AllowedRead (request : Request) : Type 0 where
+  pub address : Readable (request .address)
+  pub item : Item
+  pub listed : itemOf (request .identifier) ≡ Listed item
+
+-- A write of a writable identifier to a good address: level 00 to 09, length and content as the meter checks them. Password and operator
+-- code are any bytes.
+pub record AllowedWrite (request : Request) : Type 0 where
+  pub address : Good (request .address)
+  pub item : Item
+  pub listed : itemOf (request .identifier) ≡ Listed item
+  pub writable : item .writable ≡ true
+  pub level : request .level ≤ 9
+  pub data-length : request .count ≡ item .length
+  pub decimal : Decimal (requestValue request)
+  pub range : Range (item .kind) (requestValue request)
+
+-- Read address is always allowed.
+abbrev pub AllowedInWords : Action → Request → Type 0
+AllowedInWords ReadData request = AllowedRead request
+AllowedInWords ReadAddress request = Unit
+AllowedInWords WriteData request = AllowedWrite request
+
+-- The test of a read's address.
+readable : (address : List ℕ) → length address ≡ 6 → addressAllowed address ≡ true → Readable address
+unfolding addressAllowed
+readable address six h = go (isGood address) refl h
+  where
+    go : (t : Bool) → isGood address ≡ t → (t || isShort address) ≡ true → Readable address
+    go true e k = full (good address e)
+    go false e k = short (short-address address six k)
+
+is-readable : (address : List ℕ) → length address ≡ 6 → Readable address → addressAllowed address ≡ true
+unfolding addressAllowed
+is-readable address six (full g) = rw (is-good address g)
+is-readable address six (short s) = rw (is-short address six s) (or-true (isGood address))
+
+-- A writable item has at most 38 bytes.
+written-few : (identifier : ℕ) (item : Item) → itemOf identifier ≡ Listed item → item .writable ≡ true → item .length ≤ 38
+unfolding otherRows
+written-few =
+    listed-rule {P = λ identifier item. item .writable ≡ true → item .length ≤ 38}
+    (record { of-readings = λ identifier direction rate rates row rows w b e. absurd (false≢true e); of-rows = rows })
+  where
+    rows : InRows (λ identifier item. item .writable ≡ true → item .length ≤ 38) otherRows
+    rows = (λ e. omega arith, (λ e. omega arith, (λ e. omega arith, (λ e. omega arith, (λ e. omega arith, (λ e. omega arith, (λ e. omega arith, (λ e. omega arith, (λ e. omega arith, tt)))))))))
+
+-- Where every condition of its action holds, a request is allowed.
+holds-allowed : (request : Request) {action : Action} → request .action ≡ action → AllHold (conditionsOf action request) → isAllowed request ≡ true
+unfolding isAllowed
+holds-allowed request {action} e h = ap isAdmitted (admission-of request e ∙ all-pass Refused Allowed (conditionsOf action request) h)
+
+module _ (request : Request) (sized : Sized request) where
+  from-test : (action : Action) → request .action ≡ action → isAllowed request ≡ true → AllowedInWords action request
+  from-test ReadData e h =
+      let w = admitted-read request h e in
+      record { address = readable (request .address) (sized .address) (w .address); item = w .item; listed = w .listed }
+  from-test ReadAddress e h = tt
+  from-test WriteData e h =
+      let w = admitted-write request h e in
+      let content = content-allowed (w .item .kind) (requestValue request) .0 (w .content) in
+      record {
+        address = good (request .address) (w .good);
+        item = w .item;
+        listed = w .listed;
+        writable = w .writable;
+        level = w .level;
+        data-length = w .long;
+        decimal = content .0;
+        range = content .1;
+      }
+
+  to-test : (action : Action) → request .action ≡ action → AllowedInWords action request → isAllowed request ≡ true
+  unfolding conditionsOf valueConditions
+  to-test ReadData e w =
+      holds-allowed request e (is-readable (request .address) (sized .address) (w .address), rw (w .listed) tt)
+  to-test ReadAddress e w = holds-allowed request e tt
+  to-test WriteData e w =
+      let few = written-few (request .identifier) (w .item) (w .listed) (w .writable) in
+      let content = content-conditions (w .item .kind) (requestValue request) (content-allowed (w .item .kind) (requestValue request) .1 (w .decimal, w .range)) in
+      holds-allowed request e (
+        is-good (request .address) (w .address),
+        rw (w .listed) (
+          w .writable,
+          (
+            le-leb (request .level) 9 (w .level),
+            (
+              le-leb (request .count) 38 (omega (arith, few, w .data-length)),
+              (eq-eqb (request .count) (w .item .length) (w .data-length), (content .0, (content .1, tt))),
+            ),
+          ),
+        ),
+      )
+
+  -- A request is allowed exactly if document 01 says so.
+  pub allowed-words : (isAllowed request ≡ true) ↔ AllowedInWords (request .action) request
+  allowed-words = (from-test (request .action) refl, to-test (request .action) refl)
