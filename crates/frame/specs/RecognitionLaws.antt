@@ -9,13 +9,13 @@ use mathlib.Core.List.{List, [], _∷_, _++_, map, append-assoc, append-nil}
 use lib.ListN.{length, getD, take, drop, replicate, length-append, length-drop, length-replicate, length-map, List·getD-append}
 use lib.Seq.{take-all, getD-append-add, getD-drop}
 use lib.Dec.{leb}
-use borrow.Author.Tests.{leb-true, leb-false, eqb-true, eq-eqb}
+use borrow.Author.Tests.{leb-true, leb-false, eqb-true, eq-eqb, ne-eqb}
 use Rattle.frame.specs.Frame.{Frame, frameOf, summed, checksumOf, lengthOf, masked, Bytes}
 use Rattle.frame.specs.Laws.{summed-length, length-part}
 use Rattle.frame.specs.FrameLaws.{frame-length, frame-for}
 use Rattle.frame.specs.Writing.{frameFor}
 use Rattle.frame.specs.Recognition.{stage, recognised, recognisedBody, recognisedEnd, exactlyOne, isAll}
-use Rattle.frame.specs.RecognitionSteps.{stage-cases, stays, Headed, headed-longer, headed-closes, front-closes, closed-whole}
+use Rattle.frame.specs.RecognitionSteps.{stage-cases, stage-wrong, stays, Headed, headed-longer, headed-closes, front-closes, closed-whole}
 use Rattle.frame.specs.RecognitionSteps.{same-length, summed-says, summed-headed, take-next}
 use Rattle.frame.specs.declared.Recognised.{Recognised}
 use Rattle.frame.specs.declared.Recognised.the-variants.{Whole, Open, Neither}
@@ -190,6 +190,11 @@ pub open-most : (x : List ℕ) → recognised x ≡ Open → length x ≤ 211
 open-most x e =
     let c : Completion x = open-completes x e in
     omega (arith, c .some, simp length-append at (frame-most (c .whole)))
+
+-- Bytes that do not start with 68 begin no frame.
+pub other-start : (x : List ℕ) → 0 < length x → (getD x 0 0 ≡ 0x68 → ⊥) → recognised x ≡ Neither
+unfolding recognised
+other-start x h n = stage-wrong x 0 _ h (ne-eqb _ _ n)
 
 -- No bytes are a beginning.
 pub empty-open : recognised [] ≡ Open

@@ -5,6 +5,8 @@ pub mod PlaceLaws
 pub mod Scan
 pub mod BeginsLaws
 pub mod ScanLaws
+pub mod FramesFew
+pub mod FoundFrames
 pub mod TakenLaws
 pub mod ScanCertain
 pub mod Closed

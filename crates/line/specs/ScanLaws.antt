@@ -1,4 +1,4 @@
--- Laws of the scan: its places rise, what it keeps is open, and one symbol more is read from what was kept.
+-- Laws of the scan: its places rise, what it keeps is open, and more symbols are read from what was kept.
 use Prim.Native.Nat.{ℕ, zero, suc, _-_, _≤_, _<_}
 use native.Mathlib.Omega.{arith}
 use mathlib.Core.Path.{_≡_, refl, sym, ap}
@@ -140,45 +140,49 @@ begins-stays x y h = go (broken x) (recognised (bytesBefore x)) refl refl
     go true Open d e = rw (bytes-then x y, broken-then x y d, d, append-nil, e)
     go false Open d e = absurd (h (rw (d, e)))
 
--- One symbol more: what the scan has found, and then what the kept bytes with that symbol read as, at the place where they stand.
-pub record OneMore (x : List Symbol) (s : Symbol) : Type 0 where
+-- More symbols: what the scan has found, and then what the kept bytes with those symbols read as, at the place where they stand.
+pub record More (x y : List Symbol) : Type 0 where
   pub place : ℕ
-  pub frames : scan 0 0 (x ++ (s ∷ [])) .frames ≡ scan 0 0 x .frames ++ scan place 0 (map byte (scan 0 0 x .kept) ++ (s ∷ [])) .frames
-  pub kept : scan 0 0 (x ++ (s ∷ [])) .kept ≡ scan place 0 (map byte (scan 0 0 x .kept) ++ (s ∷ [])) .kept
+  pub frames : scan 0 0 (x ++ y) .frames ≡ scan 0 0 x .frames ++ scan place 0 (map byte (scan 0 0 x .kept) ++ y) .frames
+  pub kept : scan 0 0 (x ++ y) .kept ≡ scan place 0 (map byte (scan 0 0 x .kept) ++ y) .kept
 
--- The same of a reading and the reading with one symbol more, from any place on.
-record Grows (s : Symbol) (r later : Reading) : Type 0 where
+-- The same of a reading and the reading with more symbols, from any place on.
+record Grows (y : List Symbol) (r later : Reading) : Type 0 where
   place : ℕ
-  frames : later .frames ≡ r .frames ++ scan place 0 (map byte (r .kept) ++ (s ∷ [])) .frames
-  kept : later .kept ≡ scan place 0 (map byte (r .kept) ++ (s ∷ [])) .kept
+  frames : later .frames ≡ r .frames ++ scan place 0 (map byte (r .kept) ++ y) .frames
+  kept : later .kept ≡ scan place 0 (map byte (r .kept) ++ y) .kept
 
-scans-more : {place k : ℕ} {x : List Symbol} {r : Reading} (s : Symbol) → k ≤ length x → Scans place k x r →
-    Grows s r (scan place k (x ++ (s ∷ [])))
+scans-more : {place k : ℕ} {x : List Symbol} {r : Reading} (y : List Symbol) → k ≤ length x → Scans place k x r →
+    Grows y r (scan place k (x ++ y))
 unfolding scan readingBy before
-scans-more s h (ends {place} {k}) =
+scans-more y h (ends {place} {k}) =
     let z : k ≡ 0 = omega arith in
     rw z (record { place = place; frames = refl; kept = refl })
-scans-more s h (covered w) = scans-more s (omega arith) w
-scans-more s h (finds {place} {n} {s = t} {x} {r} e w) =
+scans-more y h (covered w) = scans-more y (omega arith) w
+scans-more y h (finds {place} {n} {s = t} {x} {r} e w) =
     let l : n ≤ length (bytesBefore (t ∷ x)) = begins-within (t ∷ x) n e in
-    let g : Grows s r (scan (suc place) (n - 1) (x ++ (s ∷ []))) = scans-more s (omega (arith, bytes-length (t ∷ x))) w in
-    rw (begins-stays (t ∷ x) (s ∷ []) (λ o. let z : _≡_ {A = ℕ} 0 1 = cc in omega arith), e, same-frame (t ∷ x) n e (s ∷ []))
+    let g : Grows y r (scan (suc place) (n - 1) (x ++ y)) = scans-more y (omega (arith, bytes-length (t ∷ x))) w in
+    rw (begins-stays (t ∷ x) y (λ o. let z : _≡_ {A = ℕ} 0 1 = cc in omega arith), e, same-frame (t ∷ x) n e y)
     (record {
       place = g .place;
       frames = ap (λ (l : List Found). record { place = place; frame = take n (bytesBefore (t ∷ x)) } ∷ l) (g .frames);
       kept = g .kept;
     })
-scans-more s h (stops {place} {s = t} {x} e) =
+scans-more y h (stops {place} {s = t} {x} e) =
     let u : t ∷ x ≡ map byte (bytesBefore (t ∷ x)) = sym (unbroken (t ∷ x) (begins-open (t ∷ x) e .0)) in
     record {
       place = place;
-      frames = ap (λ (l : List Symbol). scan place 0 (l ++ (s ∷ [])) .frames) u;
-      kept = ap (λ (l : List Symbol). scan place 0 (l ++ (s ∷ [])) .kept) u;
+      frames = ap (λ (l : List Symbol). scan place 0 (l ++ y) .frames) u;
+      kept = ap (λ (l : List Symbol). scan place 0 (l ++ y) .kept) u;
     }
-scans-more s h (drops {s = t} {x} e w) =
-    rw (begins-stays (t ∷ x) (s ∷ []) (λ o. let z : _≡_ {A = ℕ} 0 1 = cc in omega arith), e) (scans-more s (omega arith) w)
+scans-more y h (drops {s = t} {x} e w) =
+    rw (begins-stays (t ∷ x) y (λ o. let z : _≡_ {A = ℕ} 0 1 = cc in omega arith), e) (scans-more y (omega arith) w)
 
-pub one-more : (x : List Symbol) (s : Symbol) → OneMore x s
-one-more x s =
-    let g : Grows s (scan 0 0 x) (scan 0 0 (x ++ (s ∷ []))) = scans-more s (omega arith) (scans 0 0 x) in
+pub more : (x y : List Symbol) → More x y
+more x y =
+    let g : Grows y (scan 0 0 x) (scan 0 0 (x ++ y)) = scans-more y (omega arith) (scans 0 0 x) in
     record { place = g .place; frames = g .frames; kept = g .kept }
+
+-- One symbol more.
+pub one-more : (x : List Symbol) (s : Symbol) → More x (s ∷ [])
+one-more x s = more x (s ∷ [])

@@ -2,3 +2,8 @@ pub mod Text
 pub mod Examples
 pub mod DigitLaws
 pub mod TextLaws
+pub mod Lines
+pub mod LinesLaws
+pub mod Block
+pub mod BlockLaws
+pub mod ListedCertain

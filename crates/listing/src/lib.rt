@@ -1,13 +1,15 @@
 // The line that the listing program of document 01 writes for a frame: the address high byte first, the control code and
 // the unmasked data, in capital hexadecimal digits.
+pub mod block;
+
 ghost use mathlib.Core.Path.{_≡_};
 ghost use mathlib.Core.List.{map, reverse, _∷_, _++_, []};
 ghost use Prim.Native.Nat.{_+_, _*_, _≤_, _<_};
 ghost use lib.ListN.{length};
 ghost use lib.Seq.{sets};
 ghost use Rattle.frame.specs.Frame.{unmasked, lengthOf};
-ghost use Rattle.frame.specs.Memory.{outcome};
-ghost use Rattle.listing.specs.Text.{Spans, digit, hexOf, hexAll, headOf, tailOf, textLength, listing};
+ghost use Rattle.frame.specs.Memory.{outcome, over};
+ghost use Rattle.listing.specs.Text.{Spans, digit, hexOf, hexAll, headOf, tailOf, textOf, textLength, listing};
 
 // The answer to the listing of a frame; only `Length` leaves bytes in the output buffer.
 pub enum Listed {
@@ -96,7 +98,7 @@ fn write_tail(frame: &[u8], out: &mut [u8])
 }
 
 // The length of the text of a frame with so many data bytes, its newline among it.
-fn text_length(data_length: u8) -> usize
+pub(crate) fn text_length(data_length: u8) -> usize
     ensures { λ r. ⌜ r ≡ textLength «data_length» ⌝ }
 {
     if data_length == 0 {
@@ -106,6 +108,15 @@ fn text_length(data_length: u8) -> usize
 }
 
 // Writes the line of a frame, with its newline, to the front of the output buffer.
+pub(crate) fn write_line(frame: &[u8], out: &mut [u8])
+    requires { ⌜ Spans (now frame) × (textLength (lengthOf (now frame)) ≤ length (now out)) ⌝ }
+    ensures { λ _. ⌜ now (out .exit) ≡ over (textOf (now (frame .entry))) (now (out .entry)) ⌝ }
+{
+    write_head(frame, out);
+    write_tail(frame, out);
+}
+
+// Lists bytes that have to be exactly one frame: writes its line to the front of the output buffer.
 pub fn list_frame(frame: &[u8], out: &mut [u8]) -> Listed
     ensures { λ r. ⌜ outcome r (now (out .exit)) ≡ listing (now (frame .entry)) (now (out .entry)) ⌝ }
 {
@@ -116,7 +127,6 @@ pub fn list_frame(frame: &[u8], out: &mut [u8]) -> Listed
     if out.len() < n {
         return Listed::TooLittleMemory;
     }
-    write_head(frame, out);
-    write_tail(frame, out);
+    write_line(frame, out);
     Listed::Length(n)
 }

@@ -1,4 +1,4 @@
--- What hearing a whole recorded line through the receiver's calls comes to.
+-- What a whole recorded line comes to, its end taken as a silence.
 use Prim.Native.Nat.{ℕ, _-_, _^_}
 use mathlib.Core.List.{List, [], _∷_, _++_, map}
 use lib.ListN.{length}

@@ -6,62 +6,25 @@ use mathlib.Core.Path.{_≡_, refl, ap, sym, _∙_, subst}
 use mathlib.Core.List.{List, [], _∷_, _++_, map, append-nil, map-append}
 use lib.ListN.{length, take, drop, getD, length-append, length-take}
 use lib.Seq.{take-all, take-at, take-suc, length-take-le}
+use lib.Dec.{leb}
+use mathlib.Core.Bool.{Bool, true, false}
 use borrow.Author.Tests.{le-leb, lt-leb}
-use Rattle.frame.specs.Memory.{outcome, over}
+use Rattle.frame.specs.Memory.{Outcome, outcome, over, pick}
 use Rattle.frame.specs.MemoryLaws.{over-length, over-over, over-itself, lent-over}
 use Rattle.line.specs.Line.{Symbol, byte, silence}
 use Rattle.line.specs.Places.{joined}
 use Rattle.line.specs.Scan.{Reading, bytesBefore, before, scan}
-use Rattle.line.specs.ScanLaws.{Scans, ends, covered, finds, stops, drops, scans, begins-within}
+use Rattle.line.specs.FramesFew.{bytesIn, bytes-in, bytes-in-closed, frames-few}
 use Rattle.line.specs.Receiver.{fresh, called}
 use Rattle.line.specs.CallLaws.{HasReceived, fresh-received, newFrames, Answers, ignores, delivers, answers, after-one}
 use Rattle.line.specs.declared.Receiver.{Receiver}
 use Rattle.line.specs.declared.Received.{Received}
 use Rattle.line.specs.declared.Answer.the-variants.{Refused, Delivered}
+use Rattle.line.specs.Drain.{symbols, readingFrom}
+use Rattle.recording.specs.Block.{blockReading, delivered, blockRead}
+use Rattle.recording.specs.declared.BlockAnswer.{BlockAnswer}
+use Rattle.recording.specs.declared.BlockAnswer.the-variants as blocks
 use Rattle.receive_line.specs.WholeLine.{framesIn, receivedLine}
-
--- How many bytes are among the symbols.
-unfoldable pub bytesIn : List Symbol → ℕ
-bytesIn [] = 0
-bytesIn (byte b ∷ x) = suc (bytesIn x)
-bytesIn (silence ∷ x) = bytesIn x
-
--- Of bytes, all of them.
-bytes-in : (l : List ℕ) → bytesIn (map byte l) ≡ length l
-unfolding bytesIn
-bytes-in [] = refl
-bytes-in (b ∷ l) = ap suc (bytes-in l)
-
--- Of bytes with a silence behind them, all but that.
-bytes-in-closed : (l : List ℕ) → bytesIn (map byte l ++ (silence ∷ [])) ≡ length l
-unfolding bytesIn
-bytes-in-closed [] = refl
-bytes-in-closed (b ∷ l) = ap suc (bytes-in-closed l)
-
--- The frames found have no more bytes than there are among the symbols past those still covered.
-scans-few : {place k : ℕ} {x : List Symbol} {r : Reading} → k ≤ length (bytesBefore x) → Scans place k x r →
-    length (joined (r .frames)) + k ≤ bytesIn x
-unfolding before joined bytesIn bytesBefore
-scans-few h ends = omega arith
-scans-few h (covered {s = byte b} w) = omega (arith, scans-few (omega arith) w)
-scans-few h (covered {s = silence} w) = omega arith
-scans-few h (finds {n = n} {s = byte b} {x = x} {r = r} e w) =
-    let l : n ≤ length (b ∷ bytesBefore x) = begins-within (byte b ∷ x) n e in
-    let f : length (take n (b ∷ bytesBefore x)) ≡ n = length-take-le n (b ∷ bytesBefore x) l in
-    let i : length (joined (r .frames)) + (n - 1) ≤ bytesIn x = scans-few (omega arith) w in
-    simp length-append (omega arith)
-scans-few h (finds {n = n} {s = silence} {x = x} {r = r} e w) =
-    let l : n ≤ length {A = ℕ} [] = begins-within (silence ∷ x) n e in
-    let f : length {A = ℕ} (take n []) ≡ n = length-take-le n [] l in
-    let i : length (joined (r .frames)) + (n - 1) ≤ bytesIn x = scans-few (omega arith) w in
-    simp length-append (omega arith)
-scans-few h (stops e) = omega arith
-scans-few h (drops {s = byte b} e w) = omega (arith, scans-few (omega arith) w)
-scans-few h (drops {s = silence} e w) = scans-few (omega arith) w
-
--- The frames of a line have no more bytes than the line.
-frames-few : (x : List Symbol) → length (joined (scan 0 0 x .frames)) ≤ bytesIn x
-frames-few x = omega (arith, scans-few {k = 0} (omega arith) (scans 0 0 x))
 
 -- Where no bytes are gathered behind the first `at` of memory, it is as it was.
 pub gathered-none : (at count : ℕ) (ys m : List ℕ) → at + count ≤ length m → count ≡ 0 → m ≡ over (take at m ++ take count ys) m
@@ -239,3 +202,21 @@ module _ {m₀ m left : List ℕ} {at count frames : ℕ} {r : Receiver} {return
       let all : Receiving (map byte input ++ (silence ∷ [])) m₀ (over (take at m ++ take count left) m) (returned .receiver) (at + count) =
       receiving-more h last-call last-fits in
       rw (le-leb (length input) (length m₀) roomy, p, q, all .memory, all .bytes)
+
+-- An answer to the reading of a block as one number.
+abbrev pub numberOf : BlockAnswer → ℕ
+numberOf (blocks.Refused n) = 2 ^ 64 - 1
+numberOf (blocks.Delivered bytes frames rest) = bytes
+
+abbrev numbered : Outcome BlockAnswer → Outcome ℕ
+numbered o = outcome (numberOf (o .answer)) (o .memory)
+
+-- The line read straight, as one block with which it has ended.
+pub line-read : (input m₀ m : List ℕ) (answer : BlockAnswer) → outcome answer m ≡ blockRead input true m₀ → outcome (numberOf answer) m ≡ receivedLine input m₀
+unfolding receivedLine framesIn blockRead blockReading readingFrom symbols delivered
+line-read input m₀ m answer e = ap numbered e ∙ by (leb (length input) (length m₀))
+  where
+    by : (t : Bool) → numbered (pick t (delivered (blockReading input true) (length input) m₀) (outcome (blocks.Refused 1) m₀)) ≡
+        pick t (outcome (length (framesIn input)) (over (framesIn input) m₀)) (outcome (2 ^ 64 - 1) m₀)
+    by true = refl
+    by false = refl

@@ -1,7 +1,9 @@
-// Hears a whole recorded line through the receiver's calls: what the benchmark links. The end is taken as a silence.
+// A whole recorded line, its end taken as a silence, as one C function: through the receiver's calls, and straight from the
+// slice. Both are held to one definition, so that they answer alike on every line. This is what the benchmark links.
 use line::Answer;
 use line::Received;
 use line::Receiver;
+use recording::BlockAnswer;
 ghost use mathlib.Core.Path.{_≡_};
 ghost use mathlib.Core.List.{_++_, map};
 ghost use Prim.Native.Nat.{_+_, _≤_};
@@ -79,5 +81,21 @@ pub extern "C" fn receive_line(input: &[u8], out: &mut [u8]) -> usize
     match answer {
         Answer::Refused(_) => at,
         Answer::Delivered { bytes, frames: _ } => gather(&scratch, bytes, at, out),
+    }
+}
+
+// Reads `input` straight, as one block with which the line has ended, and answers as `receive_line` does.
+#[no_mangle]
+pub extern "C" fn read_line(input: &[u8], out: &mut [u8]) -> usize
+    ensures { λ r. ⌜ outcome r (now (out .exit)) ≡ receivedLine (now (input .entry)) (now (out .entry)) ⌝ }
+{
+    let answer = recording::read_block(input, true, out);
+    match answer {
+        BlockAnswer::Refused(_) => usize::MAX,
+        BlockAnswer::Delivered {
+            bytes,
+            frames: _,
+            rest: _,
+        } => bytes,
     }
 }

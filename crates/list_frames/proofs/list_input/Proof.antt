@@ -1,4 +1,5 @@
--- The invariant: both buffers are as long as they were. The measure is the number of turns that are left.
+-- The invariant: the rest is at most 211 bytes, and the buffers are as long as they were. The measure is the number of turns that are left.
+use Prim.Native.Nat.{_≤_}
 use mathlib.Core.Path.{_≡_}
 use borrow.Author.Needs.{needs}
 use lib.ListN.{length}
@@ -6,13 +7,10 @@ use Rattle.list_frames.proofs.list_input.Statement.{statement}
 use Rattle.list_frames.proofs.list_input.Tie as tie
 
 abbrev Inv-loop : tie.InvT-loop
-Inv-loop block₀ text₀ receiver₀ turns₀ block text receiver turns = (length block ≡ length block₀) × (length text ≡ length text₀)
+Inv-loop block₀ frames₀ text₀ kept₀ turns₀ block frames text kept turns = (kept ≤ 211) × (length block ≡ length block₀) × (length frames ≡ length frames₀) × (length text ≡ length text₀)
 
 abbrev μ-loop : tie.MeasureT-loop
-μ-loop block₀ text₀ receiver₀ turns₀ block text receiver turns = turns
-
-new-requires : tie.Need-new-requires Inv-loop μ-loop
-new-requires c κs = search needs
+μ-loop block₀ frames₀ text₀ kept₀ turns₀ block frames text kept turns = turns
 
 loop-holds : tie.Need-loop-holds Inv-loop μ-loop
 loop-holds c = search needs
@@ -26,6 +24,9 @@ same-length c = search needs
 same-length-2 : tie.Need-same-length-2 Inv-loop μ-loop
 same-length-2 c = search needs
 
+same-length-3 : tie.Need-same-length-3 Inv-loop μ-loop
+same-length-3 c = search needs
+
 returns : tie.Need-returns Inv-loop μ-loop
 returns c = search needs
 
@@ -38,11 +39,14 @@ loop-less c = search needs
 loop-again : tie.Need-loop-again Inv-loop μ-loop
 loop-again c = search needs
 
-same-length-3 : tie.Need-same-length-3 Inv-loop μ-loop
-same-length-3 c = search needs
-
 same-length-4 : tie.Need-same-length-4 Inv-loop μ-loop
 same-length-4 c = search needs
+
+same-length-5 : tie.Need-same-length-5 Inv-loop μ-loop
+same-length-5 c = search needs
+
+same-length-6 : tie.Need-same-length-6 Inv-loop μ-loop
+same-length-6 c = search needs
 
 returns-2 : tie.Need-returns-2 Inv-loop μ-loop
 returns-2 c = search needs
@@ -53,15 +57,16 @@ list-input-spec =
     (tie.spec
     Inv-loop
     μ-loop
-    new-requires
     loop-holds
     turn-requires
     same-length
     same-length-2
+    same-length-3
     returns
     sub-turns
     loop-less
     loop-again
-    same-length-3
     same-length-4
+    same-length-5
+    same-length-6
     returns-2)

@@ -1,5 +1,5 @@
 -- At each return the tests that led there say which case of `listing` holds. Bytes that are one frame are as many as their L says, so the
--- text has the length that was decided on, and the laws of the text say what the two stored parts are.
+-- text has the length that was decided on.
 use Prim.Native.Nat.{_≤_, _<_}
 use mathlib.Core.Path.{_≡_, sym, _∙_}
 use mathlib.Core.Bool.{true}
@@ -8,10 +8,9 @@ use borrow.Author.Needs.{needs}
 use borrow.Author.Tests.{le-leb, lt-leb, not-true, not-false}
 use lib.ListN.{length}
 use Rattle.frame.specs.Frame.{lengthOf}
-use Rattle.frame.specs.Memory.{over}
 use Rattle.frame.specs.Recognition.{exactlyOne}
 use Rattle.listing.specs.Text.{Spans, textOf, textLength, listing}
-use Rattle.listing.specs.TextLaws.{frame-spans, length-least, text-length, text-stored}
+use Rattle.listing.specs.TextLaws.{frame-spans, text-length}
 use Rattle.listing.proofs.list_frame.Statement.{statement}
 use Rattle.listing.proofs.list_frame.Tie as tie
 
@@ -55,15 +54,8 @@ room : (c : tie.Else2) →
 unfolding lengthOf
 room c = omega (arith, c .before .text-length .ensures)
 
-write-head-requires : tie.Need-write-head-requires
-write-head-requires c κs =
-    let frame = c .before .before .before .before .before .before .before .before .args .frame .now in
-    (spans (c .before .before .before .before), omega (arith, room (c .before), length-least (lengthOf frame)))
-
-write-tail-requires : tie.Need-write-tail-requires
-write-tail-requires c κs =
-    let at-head = c .before .before .before in
-    (spans (at-head .before .before .before .before .before), omega (arith, room (at-head .before .before), at-head .write-head .kept .1 .0))
+write-line-requires : tie.Need-write-line-requires
+write-line-requires c κs = (spans (c .before .before .before .before), room (c .before))
 
 same-length : tie.Need-same-length
 same-length c = search needs
@@ -71,15 +63,13 @@ same-length c = search needs
 returns-3 : tie.Need-returns-3
 unfolding listing
 returns-3 c =
-    let at-tail = c .before .before in
-    let at-head = at-tail .before .before .before .before in
-    let at-if = at-head .before .before in
+    let at-line = c .before .before in
+    let at-if = at-line .before .before in
     let frame = at-if .before .before .before .before .before .before .before .args .frame .now in
     let memory = at-if .before .before .before .before .before .before .before .args .out .now in
     let whole = spans (at-if .before .before .before) in
     let long : length (textOf frame) ≤ length memory = omega (arith, room at-if, text-length frame whole) in
-    let stored : at-tail .write-tail .last .1 .0 ≡ over (textOf frame) memory = at-tail .write-tail .ensures ∙ rw (at-head .write-head .ensures) (text-stored frame whole memory (room at-if)) in
-    rw (one (at-if .before .before .before), le-leb _ _ long, stored, decided (at-if .before))
+    rw (one (at-if .before .before .before), le-leb _ _ long, at-line .write-line .ensures, decided (at-if .before))
 
 pub list-frame-spec : {M : Type 1} → statement M
 list-frame-spec =
@@ -90,7 +80,6 @@ list-frame-spec =
     shared-slice-read-text-length
     text-length-requires
     returns-2
-    write-head-requires
-    write-tail-requires
+    write-line-requires
     same-length
     returns-3)

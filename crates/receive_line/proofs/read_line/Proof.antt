@@ -1,0 +1,53 @@
+-- Either answer to the block, as one number, is what the whole line comes to.
+use mathlib.Core.Path.{_≡_, ap, sym, _∙_}
+use mathlib.Core.List.{List}
+use Prim.Native.Nat.{ℕ}
+use borrow.Author.Needs.{needs}
+use Rattle.frame.specs.Memory.{Outcome, outcome}
+use Rattle.recording.specs.declared.BlockAnswer.{BlockAnswer}
+use Rattle.receive_line.specs.WholeLine.{receivedLine}
+use Rattle.receive_line.specs.WholeLineLaws.{numberOf, line-read}
+use Rattle.receive_line.proofs.read_line.Statement.{statement}
+use Rattle.receive_line.proofs.read_line.Tie as tie
+
+-- the number of the answer, whichever it is known to be
+answered : {a : BlockAnswer} (c : tie.After-read-block) → c .read-block .result ≡ a →
+    let args = c .before .before .before .before .args in
+    outcome (numberOf a) (c .read-block .last .1 .1 .0) ≡ receivedLine (args .input .now) (args .out .now)
+answered c e =
+    let args = c .before .before .before .before .args in
+    let number : outcome (numberOf (c .read-block .result)) (c .read-block .last .1 .1 .0) ≡ receivedLine (args .input .now) (args .out .now) = line-read (args .input .now) (args .out .now) _ _ (c .read-block .ensures) in
+    ap (λ (b : BlockAnswer). outcome (numberOf b) (c .read-block .last .1 .1 .0)) (sym e) ∙ number
+
+read-block-requires : tie.Need-read-block-requires
+read-block-requires c κs = search needs
+
+enum-told : tie.Need-enum-told
+enum-told c = search needs
+
+enum-known-answer : tie.Need-enum-known-answer
+enum-known-answer c = search needs
+
+same-length : tie.Need-same-length
+same-length c = search needs
+
+returns : tie.Need-returns
+returns c = answered (c .before .before .before .before) (c .enum-told .given .1)
+
+same-length-2 : tie.Need-same-length-2
+same-length-2 c = search needs
+
+returns-2 : tie.Need-returns-2
+returns-2 c = answered (c .before .before .before .before .before) (c .before .answer .given .1)
+
+pub read-line-spec : {M : Type 1} → statement M
+read-line-spec =
+    tie.close
+    (tie.spec
+    read-block-requires
+    enum-told
+    enum-known-answer
+    same-length
+    returns
+    same-length-2
+    returns-2)

@@ -1,0 +1,130 @@
+// The line in blocks, each begun with the rest of the one before.
+ghost use Prim.Native.Nat.{_≤_, _<_};
+ghost use lib.ListN.{length};
+use crate::gathered::Gathered;
+use recording::BlockAnswer;
+
+// What the blocks so far leave: how many bytes of their rest stand at the front of the block's buffer, and what is gathered.
+struct Progress {
+    kept: usize,
+    gathered: Gathered,
+}
+
+impl Progress {
+    // After a block that went wrong; its rest is given up.
+    fn spoilt(self) -> Progress {
+        let gathered = self.gathered;
+        Progress {
+            kept: 0,
+            gathered: gathered.spoilt(),
+        }
+    }
+}
+
+// The lesser of two numbers that are not zero.
+fn least(a: usize, b: usize) -> usize
+    requires { ⌜ (0 < a) × (0 < b) ⌝ }
+    ensures { λ r. ⌜ (0 < r) × (r ≤ b) ⌝ }
+{
+    if a < b {
+        return a;
+    }
+    b
+}
+
+// Reads the first `n` bytes of the buffer as a block, and moves its rest to the front, which is at most 211 bytes.
+fn read_filled(
+    before: Progress,
+    n: usize,
+    ended: bool,
+    block: &mut [u8],
+    out: &mut [u8],
+) -> Progress
+    requires { ⌜ n ≤ length (now block) ⌝ }
+{
+    let gathered = before.gathered;
+    let start = gathered.bytes;
+    if out.len() < start {
+        return before.spoilt();
+    }
+    let answer = recording::read_block(&block[..n], ended, &mut out[start..]);
+    let BlockAnswer::Delivered {
+        bytes,
+        frames,
+        rest,
+    } = answer
+    else {
+        return before.spoilt();
+    };
+    if n < rest {
+        return before.spoilt();
+    }
+    if 211 < n - rest {
+        return before.spoilt();
+    }
+    let kept = recording::rest::keep_rest(block, rest, n);
+    Progress {
+        kept,
+        gathered: gathered.more(bytes, frames),
+    }
+}
+
+// Reads a block: the rest of the one before, which stands at the front of the buffer, and behind it a part of the line.
+fn read_part(
+    before: Progress,
+    part: &[u8],
+    ended: bool,
+    block: &mut [u8],
+    out: &mut [u8],
+) -> Progress {
+    let kept = before.kept;
+    if block.len() < kept {
+        return before.spoilt();
+    }
+    if block.len() - kept < part.len() {
+        return before.spoilt();
+    }
+    bytes::copy(part, &mut block[kept..]);
+    read_filled(before, kept + part.len(), ended, block, out)
+}
+
+// Reads the line in blocks that bring `size` bytes each, while more than `last` are left; what is left then comes with the end.
+pub fn read_blocks(line: &[u8], size: usize, last: usize, out: &mut [u8]) -> Gathered
+    requires { ⌜ 0 < size ⌝ }
+{
+    let mut block = [0u8; 511];
+    let mut progress = Progress {
+        kept: 0,
+        gathered: Gathered::new(),
+    };
+    let mut at = 0;
+    while last < line.len() - at {
+        let n = least(size, line.len() - at);
+        progress = read_part(progress, &line[at..at + n], false, &mut block, out);
+        at += n;
+    }
+    progress = read_part(progress, &line[at..], true, &mut block, out);
+    progress.gathered
+}
+
+// Reads the line in one block, which ends it, with an output buffer just as long where there is as much.
+pub fn read_whole(line: &[u8], out: &mut [u8]) -> Gathered {
+    let none = Gathered::new();
+    let n = line.len();
+    if out.len() < n {
+        return none.spoilt();
+    }
+    let answer = recording::read_block(line, true, &mut out[..n]);
+    let BlockAnswer::Delivered {
+        bytes,
+        frames,
+        rest,
+    } = answer
+    else {
+        return none.spoilt();
+    };
+    if rest != n {
+        return none.spoilt();
+    }
+    none.more(bytes, frames)
+}

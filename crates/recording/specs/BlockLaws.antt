@@ -1,0 +1,110 @@
+-- Laws of reading a block: what draining it answers, and where the numbers of an answer lie.
+use Prim.Native.Nat.{ℕ, _+_, _-_, _≤_, _<_}
+use native.Mathlib.Omega.{arith}
+use mathlib.Core.Path.{_≡_, refl, ap, sym, _∙_}
+use mathlib.Core.Bool.{Bool, true, false}
+use mathlib.Core.List.{List, [], _∷_, _++_, map}
+use lib.ListN.{length, take, drop, length-take, length-drop}
+use lib.Seq.{take-at}
+use lib.Dec.{leb}
+use borrow.Author.Tests.{le-leb, lt-leb, leb-true, leb-false}
+use Rattle.frame.specs.Memory.{Outcome, outcome, over}
+use Rattle.frame.specs.MemoryLaws.{pick-cases}
+use Rattle.frame.specs.RecognitionLaws.{open-most}
+use Rattle.line.specs.Line.{byte, silence}
+use Rattle.line.specs.Places.{joined}
+use Rattle.line.specs.ScanLaws.{scan-kept-open}
+use Rattle.line.specs.FramesFew.{bytes-in, bytes-in-closed, frames-few}
+use Rattle.line.specs.Drain.{symbols, readingFrom, Drains}
+use Rattle.recording.specs.Block.{blockReading, delivered, blockRead}
+use Rattle.recording.specs.declared.BlockAnswer.{BlockAnswer}
+use Rattle.recording.specs.declared.BlockAnswer.the-variants.{Refused, Delivered}
+
+-- Too little memory is refused with 1.
+pub read-refused : (block m : List ℕ) (ended : Bool) → length m < length block → outcome (Refused 1) m ≡ blockRead block ended m
+unfolding blockRead
+read-refused block m ended h = rw (lt-leb _ _ h)
+
+-- Else the frames of the reading are delivered.
+pub read-delivered : (block m : List ℕ) (ended : Bool) → length block ≤ length m →
+    blockRead block ended m ≡ delivered (blockReading block ended) (length block) m
+unfolding blockRead
+read-delivered block m ended h = rw (le-leb _ _ h)
+
+-- What draining a whole block has done is what reading it answers.
+pub drained-read : (block m₀ m : List ℕ) (ended : Bool) (at bytes frames : ℕ) → length block ≤ length m₀ →
+    Drains block 0 ended m₀ m (record { at = at; bytes = bytes; frames = frames }) →
+    outcome (Delivered bytes frames at) m ≡ blockRead block ended m₀
+unfolding blockReading delivered
+drained-read block m₀ m ended at bytes frames h d =
+    let within : at ≤ length block = d .within in
+    let long : length block - at ≡ length (readingFrom 0 block ended .kept) = sym (length-drop at block) ∙ ap length (d .rest) in
+    let rest : at ≡ length block - length (readingFrom 0 block ended .kept) = omega arith in
+    let b : bytes ≡ length (joined (readingFrom 0 block ended .frames)) = d .bytes in
+    let f : frames ≡ length (readingFrom 0 block ended .frames) = d .frames in
+    let o : m ≡ over (joined (readingFrom 0 block ended .frames)) m₀ = d .memory in
+    (λ i. outcome (Delivered (b i) (f i) (rest i)) (o i)) ∙ sym (read-delivered block m₀ ended h)
+
+-- The frames of a block have no more bytes than the block.
+pub block-few : (block : List ℕ) (ended : Bool) → length (joined (blockReading block ended .frames)) ≤ length block
+unfolding blockReading readingFrom symbols
+block-few block true = rw bytes-in-closed at (frames-few (map byte block ++ (silence ∷ [])))
+block-few block false = rw bytes-in at (frames-few (map byte block))
+
+-- The rest of a block is at most 211 bytes long.
+pub rest-most : (block : List ℕ) (ended : Bool) → length (blockReading block ended .kept) ≤ 211
+unfolding blockReading readingFrom
+rest-most block ended = open-most _ (scan-kept-open 0 0 (symbols block ended))
+
+-- What the reading of a block has done that is not refused.
+pub record Delivers (block : List ℕ) (ended : Bool) (m₀ m : List ℕ) (bytes rest : ℕ) : Type 0 where
+  pub roomy : length block ≤ length m₀
+  pub memory : m ≡ over (joined (blockReading block ended .frames)) m₀
+  pub size : bytes ≡ length (joined (blockReading block ended .frames))
+  pub place : rest ≡ length block - length (blockReading block ended .kept)
+
+pub read-delivers : (block : List ℕ) (ended : Bool) (m₀ m : List ℕ) (bytes frames rest : ℕ) →
+    outcome (Delivered bytes frames rest) m ≡ blockRead block ended m₀ → Delivers block ended m₀ m bytes rest
+unfolding blockRead delivered
+read-delivers block ended m₀ m bytes frames rest =
+    pick-cases (λ (o : Outcome BlockAnswer). outcome (Delivered bytes frames rest) m ≡ o → Delivers block ended m₀ m bytes rest)
+    (leb (length block) (length m₀))
+    (λ t e.
+    let a = ap (λ (o : Outcome BlockAnswer). o .answer) e in
+    record { roomy = leb-true _ _ t; memory = ap (λ (o : Outcome BlockAnswer). o .memory) e; size = cc; place = cc })
+    (λ t e. let a = ap (λ (o : Outcome BlockAnswer). o .answer) e in let z : _≡_ {A = ℕ} 0 1 = cc in absurd (omega arith))
+
+-- What the reading of a block has done that is refused.
+pub record Declines (block m₀ m : List ℕ) (n : ℕ) : Type 0 where
+  pub short : length m₀ < length block
+  pub number : n ≡ 1
+  pub memory : m ≡ m₀
+
+pub read-declines : (block : List ℕ) (ended : Bool) (m₀ m : List ℕ) (n : ℕ) → outcome (Refused n) m ≡ blockRead block ended m₀ → Declines block m₀ m n
+unfolding blockRead delivered
+read-declines block ended m₀ m n =
+    pick-cases (λ (o : Outcome BlockAnswer). outcome (Refused n) m ≡ o → Declines block m₀ m n)
+    (leb (length block) (length m₀))
+    (λ t e. let a = ap (λ (o : Outcome BlockAnswer). o .answer) e in let z : _≡_ {A = ℕ} 0 1 = cc in absurd (omega arith))
+    (λ t e.
+    let a = ap (λ (o : Outcome BlockAnswer). o .answer) e in
+    record { short = leb-false _ _ t; number = cc; memory = ap (λ (o : Outcome BlockAnswer). o .memory) e })
+
+-- Where the numbers of an answer lie: the frames within the memory, the place of the rest within the block and at most 211 bytes before its end.
+pub record Within (block m : List ℕ) (bytes rest : ℕ) : Type 0 where
+  pub memory : bytes ≤ length m
+  pub place : rest ≤ length block
+  pub most : length block ≤ rest + 211
+
+module _ {block m₀ m : List ℕ} {ended : Bool} {bytes rest : ℕ} (d : Delivers block ended m₀ m bytes rest) where
+  -- The frames delivered stand at the front of their memory.
+  pub delivers-front : take bytes m ≡ joined (blockReading block ended .frames)
+  delivers-front = rw (d .memory) (take-at (joined (blockReading block ended .frames)) _ bytes (sym (d .size)))
+
+  pub delivers-within : Within block m bytes rest
+  delivers-within =
+      record {
+        memory = omega (arith, length-take bytes m, ap length delivers-front, d .size);
+        place = omega (arith, d .place);
+        most = omega (arith, d .place, rest-most block ended);
+      }
