@@ -1,5 +1,5 @@
-"""Prints the instructions a byte that callgrind counts within each receiver's own function, on each input, and the
-proved receiver's count divided by that of each receiver in C."""
+"""Prints the instructions a byte that callgrind counts within each reader's own function, on each input, and the count
+of each proved reader divided by those of the readers in C beside it."""
 import re
 import subprocess
 import sys
@@ -8,38 +8,37 @@ DRIVER = sys.argv[1]
 
 
 def names():
-    """The names of the receivers and of the inputs, as the driver has them."""
+    """The names of the readers, a list for each proved one and those beside it, and of the inputs, as the driver has them."""
     lines = subprocess.run([DRIVER, "names"], capture_output=True, text=True, check=True).stdout.splitlines()
-    return lines[0].split(), lines[1].split()
+    return [line.split() for line in lines[:-1]], lines[-1].split()
 
 
-def instructions_a_byte(receiver, given):
-    """One run under callgrind, which counts only while the receiver's function is being run."""
-    command = ["valgrind", "--tool=callgrind", "--callgrind-out-file=/dev/null", "--toggle-collect=" + receiver]
-    done = subprocess.run(command + [DRIVER, "run", receiver, given], capture_output=True, text=True)
+def instructions_a_byte(reader, given):
+    """One run under callgrind, which counts only while the reader's function is being run."""
+    command = ["valgrind", "--tool=callgrind", "--callgrind-out-file=/dev/null", "--toggle-collect=" + reader]
+    done = subprocess.run(command + [DRIVER, "run", reader, given], capture_output=True, text=True)
     collected = re.search(r"Collected : (\d+)", done.stderr)
     if done.returncode != 0 or collected is None:
         sys.exit("callgrind failed:\n" + done.stderr)
     heard = int(done.stdout.split()[0])
-    if int(collected.group(1)) < heard:
-        sys.exit("callgrind counted next to nothing in " + receiver + ": has the driver lost its name?")
+    if int(collected.group(1)) < heard / 20:
+        sys.exit("callgrind counted next to nothing in " + reader + ": has the driver lost its name?")
     return int(collected.group(1)) / heard
 
 
 def row(name, cells):
-    print(f"{name:34}" + "".join(f"{cell:>10}" for cell in cells))
+    print(f"{name:38}" + "".join(f"{cell:>10}" for cell in cells))
 
 
 def main():
-    receivers, inputs = names()
-    counted = {r: [instructions_a_byte(r, i) for i in inputs] for r in receivers}
+    groups, inputs = names()
     row("instructions a byte", inputs)
-    for receiver in receivers:
-        row(receiver, [f"{n:.1f}" for n in counted[receiver]])
-    proved = receivers[0]
-    for receiver in receivers[1:]:
-        ratios = [p / c for p, c in zip(counted[proved], counted[receiver])]
-        row(proved + " / " + receiver[len(proved) + 1:], [f"{ratio:.2f}" for ratio in ratios])
+    for proved, *others in groups:
+        counted = {reader: [instructions_a_byte(reader, i) for i in inputs] for reader in [proved, *others]}
+        for reader in [proved, *others]:
+            row(reader, [f"{n:.2f}" for n in counted[reader]])
+        for other in others:
+            row(proved + " / " + other, [f"{p / c:.2f}" for p, c in zip(counted[proved], counted[other])])
 
 
 main()

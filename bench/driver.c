@@ -1,8 +1,11 @@
-/* Runs the receivers on lines that it makes itself, from fixed seeds.
-     driver compare             fails where two receivers hand on different bytes
-     driver run RECEIVER INPUT  runs one receiver on one input, for a count of its instructions
-     driver time                prints how many megabytes a second each receiver takes in
-     driver names               prints the names of the receivers, and then of the inputs */
+/* Runs the readers of a recorded line, one symbol a call and straight from the slice, on lines that it makes itself, from
+   fixed seeds.
+     driver compare            fails where two readers hand on different bytes
+     driver run READER INPUT   runs one reader on one input, for a count of its instructions
+     driver time               prints how many megabytes a second each reader takes in
+     driver input INPUT COPIES writes an input so many times to standard output
+     driver names              prints the names of the readers, a line for each proved one and those beside it, and then
+                               of the inputs */
 #define _POSIX_C_SOURCE 200809L
 #include <stdbool.h>
 #include <stdio.h>
@@ -10,7 +13,7 @@
 #include <string.h>
 #include <time.h>
 
-#include "receivers.h"
+#include "readers.h"
 
 enum {
     INPUT_LENGTH = 200000,
@@ -20,19 +23,24 @@ enum {
     GUARD_BYTE = 0xA5,
 };
 
-typedef size_t receiver_function(const uint8_t *, size_t, uint8_t *, size_t);
+typedef size_t reader_function(const uint8_t *, size_t, uint8_t *, size_t);
 
-struct named_receiver {
+struct named_reader {
     const char *name;
-    receiver_function *function;
+    reader_function *function;
+    bool proved;
 };
 
-static const struct named_receiver receivers[] = {
-    {"receive_line", receive_line},
-    {"receive_line_in_place", receive_line_in_place},
-    {"receive_line_by_value", receive_line_by_value},
+/* Each proved reader, and behind it those in C that it is compared with. */
+static const struct named_reader readers[] = {
+    {"receive_line", receive_line, true},
+    {"receive_line_in_place", receive_line_in_place, false},
+    {"receive_line_by_value", receive_line_by_value, false},
+    {"read_line", read_line, true},
+    {"scan_line_gcc", scan_line_gcc, false},
+    {"scan_line_clang", scan_line_clang, false},
 };
-enum { RECEIVERS = sizeof receivers / sizeof receivers[0] };
+enum { READERS = sizeof readers / sizeof readers[0] };
 
 /* Bytes of a line that is being made. */
 struct line {
@@ -72,7 +80,7 @@ static void add_bytes(struct line *line, size_t most, const uint8_t *bytes, size
         add_byte(line, most, bytes[i]);
 }
 
-/* A byte that matters to a receiver more often than by chance. */
+/* A byte that matters to a reader more often than by chance. */
 static uint8_t telling_byte(void)
 {
     static const uint8_t telling[] = {0x68, 0x68, 0x68, 0x16, 0xFE, 0x00, 0x01, 0x0C, 0xC8, 0xC9};
@@ -121,7 +129,7 @@ static size_t nested_frame(uint8_t *frame, size_t depth)
     return seal_frame(frame, data_length + more);
 }
 
-/* Damages one byte of a frame, mostly one on which a receiver decides. */
+/* Damages one byte of a frame, mostly one on which a reader decides. */
 static void damage(uint8_t *frame, size_t length)
 {
     const size_t telling[] = {0, 7, 9, length - 2, length - 1, below(length)};
@@ -176,16 +184,15 @@ static void mutate(struct line *line)
 
 /* ---- The inputs whose instructions are counted ---- */
 
-/* Frames as they are sent: four wake-up bytes, and data lengths that requests and replies have. */
-static uint8_t next_of_frames(size_t place)
+/* Frames as they are sent: four wake-up bytes, and data lengths of a list. */
+static uint8_t next_of_lengths(size_t place, const uint8_t *data_lengths, size_t count)
 {
-    static const uint8_t data_lengths[] = {0, 1, 4, 4, 4, 8, 8, 8, 13, 24, 56, 200};
     static uint8_t frame[216];
     static size_t at, end;
     if (place == 0)
         at = end = 0;
     if (at == end) {
-        size_t data_length = data_lengths[below(sizeof data_lengths)];
+        size_t data_length = data_lengths[below(count)];
         memset(frame, 0xFE, 4);
         for (size_t i = 0; i < data_length; i++)
             frame[14 + i] = (uint8_t)chance();
@@ -193,6 +200,25 @@ static uint8_t next_of_frames(size_t place)
         at = 0;
     }
     return frame[at++];
+}
+
+/* Data lengths that requests and replies have; the short ones of them; the longest. */
+static uint8_t next_of_mixed(size_t place)
+{
+    static const uint8_t data_lengths[] = {0, 1, 4, 4, 4, 8, 8, 8, 13, 24, 56, 200};
+    return next_of_lengths(place, data_lengths, sizeof data_lengths);
+}
+
+static uint8_t next_of_short(size_t place)
+{
+    static const uint8_t data_lengths[] = {0, 1, 4, 4, 4, 8, 8, 8};
+    return next_of_lengths(place, data_lengths, sizeof data_lengths);
+}
+
+static uint8_t next_of_long(size_t place)
+{
+    static const uint8_t data_lengths[] = {200};
+    return next_of_lengths(place, data_lengths, sizeof data_lengths);
 }
 
 static uint8_t next_of_random(size_t place)
@@ -229,8 +255,8 @@ struct named_input {
 };
 
 static const struct named_input inputs[] = {
-    {"frames", next_of_frames}, {"random", next_of_random}, {"all-FE", next_of_wake_up},
-    {"all-68", next_of_starts}, {"rich-68", next_of_noise},
+    {"mixed", next_of_mixed},    {"short", next_of_short},   {"long", next_of_long},     {"random", next_of_random},
+    {"all-FE", next_of_wake_up}, {"all-68", next_of_starts}, {"rich-68", next_of_noise},
 };
 enum { INPUTS = sizeof inputs / sizeof inputs[0] };
 
@@ -243,7 +269,7 @@ static void make_input(const struct named_input *input, struct line *line)
 
 /* ---- Comparing ---- */
 
-/* What a receiver handed on, with bytes behind it that it must leave alone. */
+/* What a reader handed on, with bytes behind it that it must leave alone. */
 struct handed_on {
     uint8_t bytes[INPUT_LENGTH + GUARD_LENGTH];
     size_t length;
@@ -259,43 +285,43 @@ static void fail(const char *what, const char *name, const struct line *line)
     exit(1);
 }
 
-/* Lets a receiver take in a line, with an output exactly as long as the line, behind which it must write nothing. */
-static void hear(const struct named_receiver *receiver, const struct line *line, struct handed_on *handed)
+/* Lets a reader take in a line, with an output exactly as long as the line, behind which it must write nothing. */
+static void hear(const struct named_reader *reader, const struct line *line, struct handed_on *handed)
 {
     memset(handed->bytes, GUARD_BYTE, line->length + GUARD_LENGTH);
-    handed->length = receiver->function(line->bytes, line->length, handed->bytes, line->length);
+    handed->length = reader->function(line->bytes, line->length, handed->bytes, line->length);
     if (handed->length > line->length)
-        fail("says that it handed on more than it heard", receiver->name, line);
+        fail("says that it handed on more than it heard", reader->name, line);
     for (size_t i = line->length; i < line->length + GUARD_LENGTH; i++)
         if (handed->bytes[i] != GUARD_BYTE)
-            fail("wrote behind its output", receiver->name, line);
+            fail("wrote behind its output", reader->name, line);
 }
 
 /* Too short an output is refused, and nothing is written. */
-static void expect_refusal(const struct named_receiver *receiver, const struct line *line, struct handed_on *handed)
+static void expect_refusal(const struct named_reader *reader, const struct line *line, struct handed_on *handed)
 {
     if (line->length == 0)
         return;
     memset(handed->bytes, GUARD_BYTE, line->length);
-    if (receiver->function(line->bytes, line->length, handed->bytes, line->length - 1) != SIZE_MAX)
-        fail("took an output that is shorter than the line", receiver->name, line);
+    if (reader->function(line->bytes, line->length, handed->bytes, line->length - 1) != SIZE_MAX)
+        fail("took an output that is shorter than the line", reader->name, line);
     for (size_t i = 0; i < line->length; i++)
         if (handed->bytes[i] != GUARD_BYTE)
-            fail("wrote to an output that it refused", receiver->name, line);
+            fail("wrote to an output that it refused", reader->name, line);
 }
 
-/* Fails where two receivers hand on different bytes of a line; returns how many they hand on. */
+/* Fails where two readers hand on different bytes of a line; returns how many they hand on. */
 static size_t compare_on(const struct line *line)
 {
     static struct handed_on first, other;
-    hear(&receivers[0], line, &first);
-    for (size_t i = 1; i < RECEIVERS; i++) {
-        hear(&receivers[i], line, &other);
+    hear(&readers[0], line, &first);
+    for (size_t i = 1; i < READERS; i++) {
+        hear(&readers[i], line, &other);
         if (other.length != first.length || memcmp(other.bytes, first.bytes, first.length) != 0)
-            fail("hands on other bytes than receive_line", receivers[i].name, line);
+            fail("hands on other bytes than receive_line", readers[i].name, line);
     }
-    for (size_t i = 0; i < RECEIVERS; i++)
-        expect_refusal(&receivers[i], line, &other);
+    for (size_t i = 0; i < READERS; i++)
+        expect_refusal(&readers[i], line, &other);
     return first.length;
 }
 
@@ -326,26 +352,26 @@ static void compare(void)
         make_input(&inputs[i], &line);
         compare_on(&line);
     }
-    printf("%d receivers hand on the same bytes of %d lines, %zu bytes in all,\n", (int)RECEIVERS, LINES, heard);
+    printf("%d readers hand on the same bytes of %d lines, %zu bytes in all,\n", (int)READERS, LINES, heard);
     printf("of which %zu lines have frames, %zu bytes in all, ", with_frames, handed_on);
     printf("and of the %d inputs of `make count`, %d bytes each\n", (int)INPUTS, INPUT_LENGTH);
 }
 
 /* ---- Counting and timing ---- */
 
-static void run(const char *receiver, const char *input)
+static void run(const char *reader, const char *input)
 {
     static struct line line;
     static struct handed_on handed;
-    for (size_t r = 0; r < RECEIVERS; r++)
+    for (size_t r = 0; r < READERS; r++)
         for (size_t i = 0; i < INPUTS; i++)
-            if (strcmp(receivers[r].name, receiver) == 0 && strcmp(inputs[i].name, input) == 0) {
+            if (strcmp(readers[r].name, reader) == 0 && strcmp(inputs[i].name, input) == 0) {
                 make_input(&inputs[i], &line);
-                hear(&receivers[r], &line, &handed);
+                hear(&readers[r], &line, &handed);
                 printf("%zu %zu\n", line.length, handed.length);
                 return;
             }
-    fprintf(stderr, "no such receiver or input: %s %s\n", receiver, input);
+    fprintf(stderr, "no such reader or input: %s %s\n", reader, input);
     exit(2);
 }
 
@@ -356,8 +382,8 @@ static double seconds(void)
     return (double)now.tv_sec + (double)now.tv_nsec / 1e9;
 }
 
-/* Megabytes a second that a receiver takes in: the best of five runs of at least 50 ms. */
-static double speed(const struct named_receiver *receiver, const struct line *line)
+/* Megabytes a second that a reader takes in: the best of five runs of at least 50 ms. */
+static double speed(const struct named_reader *reader, const struct line *line)
 {
     static struct handed_on handed;
     double best = 0;
@@ -365,7 +391,7 @@ static double speed(const struct named_receiver *receiver, const struct line *li
         double start = seconds(), passed;
         size_t rounds = 0;
         do {
-            receiver->function(line->bytes, line->length, handed.bytes, line->length);
+            reader->function(line->bytes, line->length, handed.bytes, line->length);
             rounds++;
             passed = seconds() - start;
         } while (passed < 0.05);
@@ -383,20 +409,34 @@ static void print_times(void)
     for (size_t i = 0; i < INPUTS; i++)
         printf("%10s", inputs[i].name);
     printf("\n");
-    for (size_t r = 0; r < RECEIVERS; r++) {
-        printf("%-24s", receivers[r].name);
+    for (size_t r = 0; r < READERS; r++) {
+        printf("%-24s", readers[r].name);
         for (size_t i = 0; i < INPUTS; i++) {
             make_input(&inputs[i], &line);
-            printf("%10.1f", speed(&receivers[r], &line));
+            printf("%10.1f", speed(&readers[r], &line));
         }
         printf("\n");
     }
 }
 
+static void write_input(const char *input, size_t copies)
+{
+    static struct line line;
+    for (size_t i = 0; i < INPUTS; i++)
+        if (strcmp(inputs[i].name, input) == 0) {
+            make_input(&inputs[i], &line);
+            for (; copies > 0; copies--)
+                fwrite(line.bytes, 1, line.length, stdout);
+            return;
+        }
+    fprintf(stderr, "no such input: %s\n", input);
+    exit(2);
+}
+
 static void print_names(void)
 {
-    for (size_t r = 0; r < RECEIVERS; r++)
-        printf("%s%c", receivers[r].name, r + 1 == RECEIVERS ? '\n' : ' ');
+    for (size_t r = 0; r < READERS; r++)
+        printf("%s%c", readers[r].name, r + 1 == READERS || readers[r + 1].proved ? '\n' : ' ');
     for (size_t i = 0; i < INPUTS; i++)
         printf("%s%c", inputs[i].name, i + 1 == INPUTS ? '\n' : ' ');
 }
@@ -410,10 +450,12 @@ int main(int count, char **words)
         run(words[2], words[3]);
     else if (strcmp(command, "time") == 0 && count == 2)
         print_times();
+    else if (strcmp(command, "input") == 0 && count == 4)
+        write_input(words[2], strtoul(words[3], NULL, 10));
     else if (strcmp(command, "names") == 0 && count == 2)
         print_names();
     else {
-        fprintf(stderr, "usage: driver compare | run RECEIVER INPUT | time | names\n");
+        fprintf(stderr, "usage: driver compare | run READER INPUT | time | input INPUT COPIES | names\n");
         return 2;
     }
     return 0;

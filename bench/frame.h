@@ -1,5 +1,5 @@
-/* Frames as both receivers know them: the checksum, the verdict on the bytes kept and one byte more, and the search for
-   whole frames in bytes whose first place was given up. */
+/* Frames as all the C code here knows them: the checksum, the verdict on the bytes kept and one byte more, and the search
+   for whole frames, in bytes whose first place was given up and in a recorded line. */
 #ifndef FRAME_H
 #define FRAME_H
 
@@ -118,6 +118,35 @@ static inline struct search find_frames(const uint8_t *bytes, size_t count, bool
         }
     }
     return found;
+}
+
+/* The same in a recorded line, where most places hold no start delimiter: the next one is found by memchr. */
+static inline struct search scan_frames(const uint8_t *bytes, size_t count, bool silence, uint8_t *out)
+{
+    const uint8_t *at = bytes, *end = bytes + count;
+    uint8_t *to = out;
+    size_t frames = 0;
+    while (at < end) {
+        if (*at != START) {
+            at = memchr(at, START, (size_t)(end - at));
+            if (at == NULL) {
+                at = end;
+                break;
+            }
+        }
+        int length = frame_length(at, (size_t)(end - at));
+        if (length > 0) {
+            memcpy(to, at, (size_t)length);
+            to += length;
+            frames++;
+            at += length;
+        } else if (length < 0 && !silence) {
+            break;
+        } else {
+            at++;
+        }
+    }
+    return (struct search){(size_t)(at - bytes), (size_t)(to - out), frames};
 }
 
 /* Whether the bytes kept are a proper beginning of a frame: a silence has no byte that a verdict could be on. */

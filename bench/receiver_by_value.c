@@ -1,6 +1,6 @@
 /* The receiver in C whose state is passed by value, and returned by value beside the answer. One symbol a call. */
 #include "receiver.h"
-#include "receivers.h"
+#include "readers.h"
 
 /* The next state and the answer. */
 struct received {

@@ -1,6 +1,6 @@
 /* The receiver in C that changes its state in place, through a pointer. One symbol a call. */
 #include "receiver.h"
-#include "receivers.h"
+#include "readers.h"
 
 size_t receive_line_in_place(const uint8_t *input, size_t input_len, uint8_t *out, size_t out_len)
 {
