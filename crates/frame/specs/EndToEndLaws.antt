@@ -1,7 +1,7 @@
 -- Laws of frames that stand end to end: bytes are cut where the first frame ends, and what is left stands end to end again.
 use Prim.Native.Nat.{ℕ, zero, suc, _+_, _-_, _≤_, _<_}
-use mathlib.Core.Path.{_≡_, refl, ap, sym, _∙_}
-use mathlib.Core.List.{List, [], _∷_, _++_}
+use mathlib.Core.Path.{_≡_, refl, sym}
+use mathlib.Core.List.{List, [], _∷_, _++_, append-assoc}
 use native.Mathlib.Nat.{not-suc-le-zero}
 use native.Mathlib.Omega.{arith}
 use lib.ListN.{length, take, drop, length-append}
@@ -34,6 +34,13 @@ cut-next (b ∷ f) rest w =
     let more : 11 + lengthOf (b ∷ (f ++ rest)) ≡ length f = omega arith in
     let first : take (12 + lengthOf (b ∷ (f ++ rest))) (b ∷ (f ++ rest)) ≡ b ∷ f = take-at (b ∷ f) rest _ (sym size) in
     rw (first, cut-passes _ f rest more)
+
+-- Bytes behind frames that stand end to end are cut apart from them.
+pub cut-append : {bytes : List ℕ} (more : List ℕ) → EndToEnd bytes → cut (bytes ++ more) ≡ cut bytes ++ cut more
+unfolding cutFrom
+cut-append more none = refl
+cut-append more (next {frame} {rest} w behind) =
+    rw (append-assoc, cut-next frame (rest ++ more) w, cut-next frame rest w, cut-append more behind)
 
 -- Bytes that a frame begins, behind which frames stand end to end.
 pub record Fronted (bytes : List ℕ) : Type 0 where

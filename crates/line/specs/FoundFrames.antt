@@ -1,6 +1,7 @@
 -- What a scan finds are frames, and frames found stand end to end where their bytes are joined.
 use Prim.Native.Nat.{ℕ}
-use mathlib.Core.List.{List, [], _∷_, _++_}
+use mathlib.Core.Path.{refl}
+use mathlib.Core.List.{List, [], _∷_, List·Memᴰ, List·Memᴰ·head, List·Memᴰ·tail}
 use Rattle.frame.specs.Frame.{Frame}
 use Rattle.frame.specs.RecognitionLaws.{whole-frame}
 use Rattle.frame.specs.EndToEnd.{EndToEnd, none, next}
@@ -13,6 +14,11 @@ use Rattle.line.specs.ScanLaws.{Scans, ends, covered, finds, stops, drop
 abbrev pub AllFrames : List Found → Type 0
 AllFrames [] = Unit
 AllFrames (f ∷ fs) = Frame (f .frame) × AllFrames fs
+
+-- All are frames where each member is one.
+pub each-frame : (fs : List Found) → ((f : Found) → List·Memᴰ f fs → Frame (f .frame)) → AllFrames fs
+each-frame [] w = tt
+each-frame (f ∷ fs) w = (w f (List·Memᴰ·head refl), each-frame fs (λ g m. w g (List·Memᴰ·tail m)))
 
 -- A scan finds frames.
 scans-frames : {place k : ℕ} {x : List Symbol} {r : Reading} → Scans place k x r → AllFrames (r .frames)

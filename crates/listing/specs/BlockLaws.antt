@@ -1,14 +1,13 @@
 -- Laws of the listing of a block: what its reading delivers is cut into the frames found again, what each way out of a listing comes to,
 -- and where the numbers of an answer lie.
-use Prim.Native.Nat.{ℕ, _+_, _-_, _*_, _≤_, _<_}
-use mathlib.Core.Path.{_≡_, refl, ap, sym, _∙_}
+use Prim.Native.Nat.{ℕ, _-_, _*_, _≤_, _<_}
+use mathlib.Core.Path.{_≡_, refl, ap, _∙_}
 use mathlib.Core.Bool.{Bool}
 use mathlib.Core.List.{List, [], _∷_}
 use native.Mathlib.Omega.{arith}
-use lib.ListN.{length, take, length-take}
-use lib.Seq.{take-at}
+use lib.ListN.{length, take}
 use lib.Dec.{leb}
-use borrow.Author.Tests.{le-leb, lt-leb, leb-true, leb-false}
+use borrow.Author.Tests.{le-leb, lt-leb, leb-true}
 use Rattle.frame.specs.Memory.{Outcome, outcome, over}
 use Rattle.frame.specs.MemoryLaws.{over-length, pick-cases}
 use Rattle.frame.specs.EndToEnd.{EndToEnd, cutFrom, cut}
@@ -17,8 +16,7 @@ use Rattle.line.specs.Places.{Found, joined}
 use Rattle.line.specs.Drain.{symbols, readingFrom}
 use Rattle.line.specs.FoundFrames.{AllFrames, scan-frames, joined-end-to-end}
 use Rattle.recording.specs.Block.{blockReading, blockRead}
-use Rattle.recording.specs.BlockLaws.{Within, block-few, rest-most, Delivers, Declines, read-declines, delivers-front}
-use Rattle.recording.specs.declared.BlockAnswer.{BlockAnswer}
+use Rattle.recording.specs.BlockLaws.{Within, block-few, rest-most, Delivers, read-declines, delivers-front}
 use Rattle.recording.specs.declared.BlockAnswer.the-variants as read
 use Rattle.listing.specs.Lines.{linesOf}
 use Rattle.listing.specs.LinesLaws.{lines-twice}
@@ -26,7 +24,7 @@ use Rattle.listing.specs.Block.{framesOf, BlockOutcome, blockOutcome, re
 use Rattle.listing.specs.declared.block.BlockListed.the-variants.{Refused, Listed}
 
 -- Frames joined are cut into the same frames again.
-cut-joined : (fs : List Found) → AllFrames fs → cut (joined fs) ≡ framesOf fs
+pub cut-joined : (fs : List Found) → AllFrames fs → cut (joined fs) ≡ framesOf fs
 unfolding cutFrom joined framesOf
 cut-joined [] w = refl
 cut-joined (f ∷ fs) w = cut-next (f .frame) (joined fs) (w .0) ∙ ap (λ (l : List (List ℕ)). f .frame ∷ l) (cut-joined fs (w .1))
@@ -65,6 +63,12 @@ reading-refused block ended m₀ m text n h e =
     let d = read-declines block ended m₀ m n e in
     rw (le-leb _ _ h, lt-leb _ _ (d .short), d .number, d .memory)
 
+-- A listing with memory enough for both: the frames of the reading are listed.
+pub reading-listed : (block : List ℕ) (ended : Bool) (frames text : List ℕ) → 2 * length block ≤ length text → length block ≤ length frames →
+    blockListed block ended frames text ≡ readingListed (blockReading block ended) (length block) frames text
+unfolding blockListed
+reading-listed block ended frames text fits roomy = rw (le-leb _ _ fits, le-leb _ _ roomy)
+
 -- A listing that is not refused.
 module _ {block m₀ m : List ℕ} {ended : Bool} {bytes rest : ℕ} (d : Delivers block ended m₀ m bytes rest) where
   module _ (text : List ℕ) (fits : 2 * length block ≤ length text) where
@@ -76,12 +80,12 @@ module _ {block m₀ m : List ℕ} {ended : Bool} {bytes rest : ℕ} (d : Delive
     pub delivers-listed : {text₁ : List ℕ} {used : ℕ} →
         outcome used text₁ ≡ outcome (length (linesOf (cut (take bytes m)))) (over (linesOf (cut (take bytes m))) text) →
         blockOutcome (Listed used rest) m text₁ ≡ blockListed block ended m₀ text
-    unfolding blockListed readingListed
+    unfolding readingListed
     delivers-listed {text₁} {used} e =
         let frames : cut (take bytes m) ≡ framesOf (blockReading block ended .frames) = ap cut (delivers-front d) ∙ block-cut block ended in
         let long : used ≡ length (linesOf (framesOf (blockReading block ended .frames))) = ap (λ (o : Outcome ℕ). o .answer) e ∙ ap (λ (l : List (List ℕ)). length (linesOf l)) frames in
         let lines : text₁ ≡ over (linesOf (framesOf (blockReading block ended .frames))) text = ap (λ (o : Outcome ℕ). o .memory) e ∙ ap (λ (l : List (List ℕ)). over (linesOf l) text) frames in
-        rw (le-leb _ _ fits, le-leb _ _ (d .roomy)) (cc (d .memory, d .place))
+        rw (reading-listed block ended m₀ text fits (d .roomy)) (cc (d .memory, d .place))
 
 -- What a listing has done that is not refused.
 pub record Lists (block : List ℕ) (ended : Bool) (frames₀ frames text₀ text : List ℕ) (used rest : ℕ) : Type 0 where

@@ -6,4 +6,4 @@ pub mod Lines
 pub mod LinesLaws
 pub mod Block
 pub mod BlockLaws
-pub mod ListedCertain
+pub mod ListedBlocks

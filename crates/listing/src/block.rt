@@ -1,4 +1,6 @@
-// The listing of a whole block of a recorded line: document 01, "The listing program".
+// The listing of a whole block of a recorded line: document 01, "The listing program". What the blocks of a line list in all
+// are the lines of exactly the frames certain after it, or taken in it where it has ended (`blocks-listed` in
+// specs/ListedBlocks.antt).
 use crate::text_length;
 use crate::write_line;
 use frame::refusal::SHORT_MEMORY;

@@ -1,5 +1,5 @@
 -- Laws of a receiver that is fed a line while the frames it delivers are gathered in memory.
-use Prim.Native.Nat.{ℕ, suc, _+_, _-_, _≤_, _<_, _^_}
+use Prim.Native.Nat.{ℕ, _+_, _-_, _≤_, _<_, _^_}
 use native.Mathlib.Numerals.{add-one}
 use native.Mathlib.Omega.{arith}
 use mathlib.Core.Path.{_≡_, refl, ap, sym, _∙_, subst}
@@ -13,7 +13,7 @@ use Rattle.frame.specs.Memory.{Outcome, outcome, over, pick}
 use Rattle.frame.specs.MemoryLaws.{over-length, over-over, over-itself, lent-over}
 use Rattle.line.specs.Line.{Symbol, byte, silence}
 use Rattle.line.specs.Places.{joined}
-use Rattle.line.specs.Scan.{Reading, bytesBefore, before, scan}
+use Rattle.line.specs.Scan.{scan}
 use Rattle.line.specs.FramesFew.{bytesIn, bytes-in, bytes-in-closed, frames-few}
 use Rattle.line.specs.Receiver.{fresh, called}
 use Rattle.line.specs.CallLaws.{HasReceived, fresh-received, newFrames, Answers, ignores, delivers, answers, after-one}

@@ -3,7 +3,7 @@
 use Prim.Native.Nat.{ℕ, _+_, _-_, _≤_}
 use native.Mathlib.Omega.{arith}
 use native.Mathlib.Nat.{zero-add}
-use mathlib.Core.Path.{_≡_, refl, ap, sym, subst, _∙_}
+use mathlib.Core.Path.{_≡_, refl, ap, sym, _∙_}
 use mathlib.Core.Bool.{Bool, true, false, _||_, or-false}
 use mathlib.Core.List.{List, [], _∷_, _++_, map, append-nil, append-assoc}
 use lib.ListN.{length, take, drop}
@@ -11,7 +11,7 @@ use lib.Seq.{take-append-seam}
 use Rattle.frame.specs.Memory.{Outcome, outcome, over}
 use Rattle.line.specs.Line.{byte}
 use Rattle.line.specs.Places.{joined}
-use Rattle.line.specs.Scan.{Reading, scan}
+use Rattle.line.specs.Scan.{scan}
 use Rattle.line.specs.Demand3.{Exactly}
 use Rattle.line.specs.Drain.{symbols}
 use Rattle.recording.specs.Block.{blockReading, delivered, blockRead}
@@ -87,10 +87,10 @@ module _ {rest : List ℕ} {b : Block} (h : IsRead rest b) where
   unfolding delivered
   says = ap (λ (o : Outcome BlockAnswer). o .answer) answered
 
-  block-rest : restBy (b .answer) (rest ++ b .new) ≡ blockReading (rest ++ b .new) (b .ended) .kept
+  pub block-rest : restBy (b .answer) (rest ++ b .new) ≡ blockReading (rest ++ b .new) (b .ended) .kept
   block-rest = rw says (rest-there (rest ++ b .new) (b .ended))
 
-  block-delivers : deliveredBy (b .answer) (b .left) ≡ joined (blockReading (rest ++ b .new) (b .ended) .frames)
+  pub block-delivers : deliveredBy (b .answer) (b .left) ≡ joined (blockReading (rest ++ b .new) (b .ended) .frames)
   unfolding delivered
   block-delivers =
       let m : b .left ≡ over (joined (blockReading (rest ++ b .new) (b .ended) .frames)) (b .lent) = ap (λ (o : Outcome BlockAnswer). o .memory) answered in

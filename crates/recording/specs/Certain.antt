@@ -2,19 +2,21 @@
 -- where the line has ended with the block, exactly the frames taken in it.
 use Prim.Native.Nat.{ℕ, _+_, _-_, _≤_}
 use native.Mathlib.Omega.{arith}
-use mathlib.Core.Path.{_≡_, ap, sym, _∙_}
+use mathlib.Core.Path.{_≡_, ap, _∙_}
 use mathlib.Core.Logic.{_↔_}
 use mathlib.Core.Bool.{Bool, true, false}
-use mathlib.Core.List.{List, [], _∷_, _++_, map, List·Memᴰ}
+use mathlib.Core.List.{List, [], _++_, map, List·Memᴰ}
 use lib.ListN.{length, drop}
+use Rattle.frame.specs.Frame.{Frame}
 use Rattle.frame.specs.Memory.{Outcome, outcome, over}
 use Rattle.frame.specs.Recognition.{recognised}
 use Rattle.frame.specs.declared.Recognised.the-variants.{Open}
-use Rattle.line.specs.Line.{Symbol, byte, silence, Choice, Keeps, Certain}
+use Rattle.line.specs.Line.{Symbol, byte, Choice, Keeps, Certain}
 use Rattle.line.specs.Places.{joined}
 use Rattle.line.specs.Scan.{Reading, scan}
 use Rattle.line.specs.Reading.{OneChoice, one-choice}
 use Rattle.line.specs.ScanLaws.{scan-rising, scan-kept-open}
+use Rattle.line.specs.FoundFrames.{AllFrames, each-frame}
 use Rattle.line.specs.ScanCertain.{found-certain, certain-found}
 use Rattle.line.specs.Closed.{taken-found}
 use Rattle.line.specs.Demand3.{Exactly}
@@ -23,7 +25,7 @@ use Rattle.recording.specs.Block.{blockReading, delivered, blockRead}
 use Rattle.recording.specs.BlockLaws.{read-delivered, rest-most}
 use Rattle.recording.specs.RestLaws.{rest-there}
 use Rattle.recording.specs.declared.BlockAnswer.{BlockAnswer}
-use Rattle.recording.specs.declared.BlockAnswer.the-variants.{Refused, Delivered}
+use Rattle.recording.specs.declared.BlockAnswer.the-variants.{Delivered}
 
 -- A frame is taken in a line: by the choice that keeps document 01's rule, of which there is exactly one.
 abbrev pub Taken : List Symbol → ℕ → List ℕ → Type 1
@@ -64,6 +66,20 @@ due line ended =
       rising = scan-rising 0 0 (symbols line ended);
       exact = due-found line ended;
     }
+
+-- What is due is a frame.
+due-frame : (line : List ℕ) (ended : Bool) (place : ℕ) (frame : List ℕ) → Due line ended place frame → Frame frame
+due-frame line false place frame c =
+    let one : OneChoice (map byte line ++ []) = one-choice (map byte line ++ []) in
+    one .keeps place frame .0 (c [] tt (one .taken) (one .keeps)) .0 .whole
+due-frame line true place frame t =
+    let one : OneChoice (map byte line) = one-choice (map byte line) in
+    one .keeps place frame .0 (t (one .taken) (one .keeps)) .0 .whole
+
+-- All that is found are frames where exactly what is due is found.
+pub due-frames : (line : List ℕ) (ended : Bool) (found : Exactly (Due line ended)) → AllFrames (found .frames)
+due-frames line ended found =
+    each-frame (found .frames) (λ f m. due-frame line ended (f .place) (f .frame) (found .exact (f .place) (f .frame) .0 m))
 
 -- With memory enough, whether or not the line has ended.
 pub block-due : (block : List ℕ) (ended : Bool) (lent left : List ℕ) (answer : BlockAnswer) → length block ≤ length lent →

@@ -1,11 +1,11 @@
 -- A line that is read on: what its first bytes and then more bytes deliver, the more being read behind the rest of the first.
 use Prim.Native.Nat.{ℕ, _+_}
-use mathlib.Core.Path.{_≡_, refl, ap, sym, _∙_}
+use mathlib.Core.Path.{_≡_, ap}
 use mathlib.Core.Bool.{Bool, true, false}
-use mathlib.Core.List.{List, [], _∷_, _++_, map, map-append, append-assoc}
+use mathlib.Core.List.{List, _++_, map, map-append, append-assoc}
 use lib.ListN.{length, length-append}
-use Rattle.line.specs.Line.{Symbol, byte, silence}
-use Rattle.line.specs.Places.{Found, joined}
+use Rattle.line.specs.Line.{byte}
+use Rattle.line.specs.Places.{joined}
 use Rattle.line.specs.PlaceLaws.{joined-append}
 use Rattle.line.specs.Scan.{scan}
 use Rattle.line.specs.ScanLaws.{More, more, place-joined, place-count, place-kept}

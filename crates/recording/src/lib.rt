@@ -1,7 +1,7 @@
-// A recorded line read straight from a slice, in blocks: document 01, "Reading of the line", without a receiver. What a block
-// delivers are the frames certain after it (`block-certain` in specs/Certain.antt); a line cut into blocks, each begun with
-// the rest of the one before, delivers the frames certain after the line, and with its end those taken in it (`blocks-certain`
-// and `blocks-taken` in specs/Blocks.antt).
+// A recorded line read straight from a slice, in blocks: document 01, "Reading of the line", without a receiver. A block
+// delivers exactly the frames certain after it (`block-due` in specs/Certain.antt); a line cut into blocks anywhere, each begun
+// with the rest of the one before, delivers in all the frames certain after it and, with its end, those taken in it
+// (`blocks-due` in specs/Blocks.antt).
 pub mod rest;
 mod start;
 

@@ -1,9 +1,7 @@
 -- Either answer to the block, as one number, is what the whole line comes to.
 use mathlib.Core.Path.{_≡_, ap, sym, _∙_}
-use mathlib.Core.List.{List}
-use Prim.Native.Nat.{ℕ}
 use borrow.Author.Needs.{needs}
-use Rattle.frame.specs.Memory.{Outcome, outcome}
+use Rattle.frame.specs.Memory.{outcome}
 use Rattle.recording.specs.declared.BlockAnswer.{BlockAnswer}
 use Rattle.receive_line.specs.WholeLine.{receivedLine}
 use Rattle.receive_line.specs.WholeLineLaws.{numberOf, line-read}

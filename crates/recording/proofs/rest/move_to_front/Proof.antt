@@ -1,8 +1,6 @@
 -- The invariant is the law of a list that is written over the front; no byte is read after it was written over.
-use Prim.Native.Nat.{ℕ, _≤_, _<_, _+_, _-_}
-use native.Mathlib.Omega.{arith}
+use Prim.Native.Nat.{_-_}
 use borrow.Author.Needs.{needs}
-use lib.ListN.{length}
 use Rattle.recording.specs.KeepLaws.{Moving, moving-start, moving-next, moving-end}
 use Rattle.recording.proofs.rest.move_to_front.Statement.{statement}
 use Rattle.recording.proofs.rest.move_to_front.Tie as tie

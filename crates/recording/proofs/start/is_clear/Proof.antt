@@ -1,18 +1,15 @@
+-- The invariant: as long as no 68 was seen, none stands at the places looked at.
 use Rattle.recording.specs.Skip.{Passes}
 use Rattle.recording.specs.SkipLaws.{passes-none, passes-join, passes-one}
-use Prim.Native.Nat.{ℕ, zero, suc, _≤_, _<_, _+_, _-_, _*_, _%_, _/_, _^_}
-use mathlib.Core.Path.{_≡_, refl, ap, sym, _∙_}
+use Prim.Native.Nat.{ℕ, _≤_, _+_, _-_}
+use mathlib.Core.Path.{_≡_, sym, _∙_}
 use mathlib.Core.Logic.{⊎-elim}
 use mathlib.Core.Bool.{Bool, true, false}
-use mathlib.Core.List.{List, [], _∷_, _++_}
 use native.Mathlib.Omega.{arith}
 use native.Mathlib.Nat.{add-zero}
 use borrow.Author.Needs.{needs}
-use lib.ListN.{length, take, drop, getD, set}
 use Rattle.recording.proofs.start.is_clear.Statement.{statement}
 use Rattle.recording.proofs.start.is_clear.Tie as tie
-use Rattle.recording.proofs.start.is_clear.Reads as reads
-use Rattle.recording.proofs.start.is_clear.Lts as lts
 
 abbrev Inv-loop : tie.InvT-loop
 Inv-loop line at width clear₀ i₀ clear i = (i ≤ width) × (clear ≡ true → Passes line at (at + i))
@@ -20,27 +17,21 @@ Inv-loop line at width clear₀ i₀ clear i = (i ≤ width) × (clear ≡ true 
 abbrev μ-loop : tie.MeasureT-loop
 μ-loop line at width clear₀ i₀ clear i = width - i
 
--- src/start.rt:16:5
 loop-holds : tie.Need-loop-holds Inv-loop μ-loop
 loop-holds c = (omega arith, λ e. rw add-zero (passes-none _ _ (omega arith)))
 
--- src/start.rt:17:17
 add-if1 : tie.Need-add-if1 Inv-loop μ-loop
 add-if1 c = search needs
 
--- src/start.rt:17:12
 shared-slice-read-if1 : tie.Need-shared-slice-read-if1 Inv-loop μ-loop
 shared-slice-read-if1 c = search needs
 
--- src/start.rt:20:9
 add-i : tie.Need-add-i Inv-loop μ-loop
 add-i c = search needs
 
--- src/start.rt:16:5
 loop-less : tie.Need-loop-less Inv-loop μ-loop
 loop-less c = search needs
 
--- src/start.rt:16:5
 loop-again : tie.Need-loop-again Inv-loop μ-loop
 loop-again c =
     let l = c .before .before .before in
@@ -56,7 +47,6 @@ loop-again c =
           (c .if1 .came),
     )
 
--- src/start.rt:10:1
 returns : tie.Need-returns Inv-loop μ-loop
 returns c = let e : c .before .loop .i ≡ c .before .before .args .width = omega (arith, c .before .loop .inv .0) in rw e at (c .before .loop .inv .1)
 
