@@ -7,7 +7,7 @@ import sys
 import time
 
 DRIVER, FOLDER, *PROGRAMS = sys.argv[1:]
-INPUTS = ["mixed", "short", "long", "random", "all-FE", "all-68", "rich-68"]
+INPUTS = subprocess.run([DRIVER, "names"], capture_output=True, text=True, check=True).stdout.splitlines()[-1].split()
 COUNTED_COPIES = 10
 TIMED_COPIES = 500
 COPY = 200_000
