@@ -11,11 +11,11 @@ use Rattle.frame.specs.EndToEnd.{EndToEnd, cutFrom, cut}
 use Rattle.frame.specs.EndToEndLaws.{cut-append}
 use Rattle.line.specs.FoundFrames.{AllFrames}
 use Rattle.line.specs.Demand3.{Exactly}
-use Rattle.recording.specs.Block.{blockReading, blockRead}
+use Rattle.recording.specs.Block.{blockRead}
 use Rattle.recording.specs.RestLaws.{rest-there}
 use Rattle.recording.specs.Certain.{Due, due-frames}
 use Rattle.recording.specs.Blocks as read
-use Rattle.recording.specs.Blocks.{Block, IsRead, AreRead, lineOf, hasEnded, deliveredBy, deliveredBytes, ReadsTheLine, block-rest, block-delivers, blocks-due}
+use Rattle.recording.specs.Blocks.{Block, IsRead, AreRead, lineOf, hasEnded, deliveredBy, deliveredBytes, readingOf, ReadsTheLine, block-rest, block-delivers, blocks-due}
 use Rattle.listing.specs.Lines.{linesOf}
 use Rattle.listing.specs.LinesLaws.{lines-append}
 use Rattle.listing.specs.Block.{framesOf, BlockOutcome, blockOutcome, readingListed, blockListed}
@@ -98,11 +98,13 @@ module _ {rest : List ℕ} {b : ListedBlock} (h : IsListed rest b) where
   listed-read = record { enough = h .frames; call = refl }
 
   -- What its listing comes to.
-  answered : blockOutcome (b .answer) (b .leftFrames) (b .leftText) ≡ readingListed (blockReading (rest ++ b .new) (b .ended)) (length (rest ++ b .new)) (b .lentFrames) (b .lentText)
+  answered : blockOutcome (b .answer) (b .leftFrames) (b .leftText) ≡
+      readingListed (readingOf rest (reading rest b)) (length (rest ++ b .new)) (b .lentFrames) (b .lentText)
   answered = h .call ∙ reading-listed (rest ++ b .new) (b .ended) (b .lentFrames) (b .lentText) (h .text) (h .frames)
 
   -- What it answers.
-  says : b .answer ≡ Listed (length (linesOf (framesOf (blockReading (rest ++ b .new) (b .ended) .frames)))) (length (rest ++ b .new) - length (blockReading (rest ++ b .new) (b .ended) .kept))
+  says : b .answer ≡
+      Listed (length (linesOf (framesOf (readingOf rest (reading rest b) .frames)))) (length (rest ++ b .new) - length (readingOf rest (reading rest b) .kept))
   unfolding readingListed
   says = ap (λ (o : BlockOutcome). o .answer) answered
 
@@ -118,8 +120,9 @@ module _ {rest : List ℕ} {b : ListedBlock} (h : IsListed rest b) where
   block-text : textBy (b .answer) (b .leftText) ≡ linesOf (cut (deliveredBy (reading rest b .answer) (reading rest b .left)))
   unfolding readingListed
   block-text =
-      let m : b .leftText ≡ over (linesOf (framesOf (blockReading (rest ++ b .new) (b .ended) .frames))) (b .lentText) = ap (λ (o : BlockOutcome). o .text) answered in
-      rw (says, m, block-delivers listed-read, block-cut) (take-append-seam (linesOf (framesOf (blockReading (rest ++ b .new) (b .ended) .frames))) _)
+      let lines : List ℕ = linesOf (framesOf (readingOf rest (reading rest b) .frames)) in
+      let m : b .leftText ≡ over lines (b .lentText) = ap (λ (o : BlockOutcome). o .text) answered in
+      rw (says, m, block-delivers listed-read, block-cut) (take-append-seam lines _)
 
 -- Blocks that are listed are read.
 listed-reads : (rest : List ℕ) (bs : List ListedBlock) → AreListed rest bs → AreRead rest (readings rest bs)

@@ -89,7 +89,7 @@ fn read_part(
 }
 
 // Reads the line in blocks that bring `size` bytes each, while more than `last` are left; what is left then comes with the end.
-pub fn read_blocks(line: &[u8], size: usize, last: usize, out: &mut [u8]) -> Gathered
+pub(crate) fn read_blocks(line: &[u8], size: usize, last: usize, out: &mut [u8]) -> Gathered
     requires { ⌜ 0 < size ⌝ }
 {
     let mut block = [0u8; 511];
@@ -108,7 +108,7 @@ pub fn read_blocks(line: &[u8], size: usize, last: usize, out: &mut [u8]) -> Gat
 }
 
 // Reads the line in one block, which ends it, with an output buffer just as long where there is as much.
-pub fn read_whole(line: &[u8], out: &mut [u8]) -> Gathered {
+pub(crate) fn read_whole(line: &[u8], out: &mut [u8]) -> Gathered {
     let none = Gathered::new();
     let n = line.len();
     if out.len() < n {

@@ -66,7 +66,7 @@ impl Heard {
 }
 
 // Reads the line through a fresh receiver, byte by byte, and ends it with a silence.
-pub fn read_calls(line: &[u8], out: &mut [u8]) -> Gathered {
+pub(crate) fn read_calls(line: &[u8], out: &mut [u8]) -> Gathered {
     let mut heard = Heard::new();
     let mut i = 0;
     while i < line.len() {

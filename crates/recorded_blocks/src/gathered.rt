@@ -1,7 +1,7 @@
 // What a way of reading the line has gathered.
 
 // So many bytes of so many frames, end to end at the front of a buffer beside this.
-pub struct Gathered {
+pub(crate) struct Gathered {
     pub bytes: usize,
     pub frames: usize,
     // Whether a call was refused, or answered what cannot be.
@@ -18,7 +18,7 @@ fn sum(a: usize, b: usize) -> usize {
 
 impl Gathered {
     // Nothing is gathered yet.
-    pub fn new() -> Gathered {
+    pub(crate) fn new() -> Gathered {
         Gathered {
             bytes: 0,
             frames: 0,
@@ -27,7 +27,7 @@ impl Gathered {
     }
 
     // After a call that was refused, or that answered what cannot be.
-    pub fn spoilt(self) -> Gathered {
+    pub(crate) fn spoilt(self) -> Gathered {
         Gathered {
             bytes: self.bytes,
             frames: self.frames,
@@ -36,7 +36,7 @@ impl Gathered {
     }
 
     // After a call that left so many bytes of so many frames behind those of the calls before it.
-    pub fn more(self, bytes: usize, frames: usize) -> Gathered {
+    pub(crate) fn more(self, bytes: usize, frames: usize) -> Gathered {
         Gathered {
             bytes: sum(self.bytes, bytes),
             frames: sum(self.frames, frames),
@@ -46,7 +46,12 @@ impl Gathered {
 }
 
 // Whether both ways gathered the same bytes in as many frames, each in its buffer, and no call went wrong.
-pub fn same(first: Gathered, first_bytes: &[u8], second: Gathered, second_bytes: &[u8]) -> bool {
+pub(crate) fn same(
+    first: Gathered,
+    first_bytes: &[u8],
+    second: Gathered,
+    second_bytes: &[u8],
+) -> bool {
     if first.wrong {
         return false;
     }

@@ -11,7 +11,7 @@ use lib.Seq.{take-append-seam}
 use Rattle.frame.specs.Memory.{Outcome, outcome, over}
 use Rattle.line.specs.Line.{byte}
 use Rattle.line.specs.Places.{joined}
-use Rattle.line.specs.Scan.{scan}
+use Rattle.line.specs.Scan.{Reading, scan}
 use Rattle.line.specs.Demand3.{Exactly}
 use Rattle.line.specs.Drain.{symbols}
 use Rattle.recording.specs.Block.{blockReading, delivered, blockRead}
@@ -78,25 +78,30 @@ pub record ReadsTheLine (blocks : List Block) : Type 1 where
   pub delivered : deliveredBytes blocks ≡ joined (found .frames)
   pub counted : countedFrames blocks ≡ length (found .frames)
 
--- What one block leaves and delivers.
+-- What a block reads as that begins with a rest.
+abbrev pub readingOf : List ℕ → Block → Reading
+readingOf rest b = blockReading (rest ++ b .new) (b .ended)
+
+-- What one block leaves, delivers and counts.
 module _ {rest : List ℕ} {b : Block} (h : IsRead rest b) where
-  answered : outcome (b .answer) (b .left) ≡ delivered (blockReading (rest ++ b .new) (b .ended)) (length (rest ++ b .new)) (b .lent)
+  answered : outcome (b .answer) (b .left) ≡ delivered (readingOf rest b) (length (rest ++ b .new)) (b .lent)
   answered = h .call ∙ read-delivered (rest ++ b .new) (b .lent) (b .ended) (h .enough)
 
-  says : b .answer ≡ Delivered (length (joined (blockReading (rest ++ b .new) (b .ended) .frames))) (length (blockReading (rest ++ b .new) (b .ended) .frames)) (length (rest ++ b .new) - length (blockReading (rest ++ b .new) (b .ended) .kept))
+  says : b .answer ≡
+      Delivered (length (joined (readingOf rest b .frames))) (length (readingOf rest b .frames)) (length (rest ++ b .new) - length (readingOf rest b .kept))
   unfolding delivered
   says = ap (λ (o : Outcome BlockAnswer). o .answer) answered
 
-  pub block-rest : restBy (b .answer) (rest ++ b .new) ≡ blockReading (rest ++ b .new) (b .ended) .kept
+  pub block-rest : restBy (b .answer) (rest ++ b .new) ≡ readingOf rest b .kept
   block-rest = rw says (rest-there (rest ++ b .new) (b .ended))
 
-  pub block-delivers : deliveredBy (b .answer) (b .left) ≡ joined (blockReading (rest ++ b .new) (b .ended) .frames)
+  pub block-delivers : deliveredBy (b .answer) (b .left) ≡ joined (readingOf rest b .frames)
   unfolding delivered
   block-delivers =
-      let m : b .left ≡ over (joined (blockReading (rest ++ b .new) (b .ended) .frames)) (b .lent) = ap (λ (o : Outcome BlockAnswer). o .memory) answered in
-      rw (says, m) (take-append-seam (joined (blockReading (rest ++ b .new) (b .ended) .frames)) _)
+      let m : b .left ≡ over (joined (readingOf rest b .frames)) (b .lent) = ap (λ (o : Outcome BlockAnswer). o .memory) answered in
+      rw (says, m) (take-append-seam (joined (readingOf rest b .frames)) _)
 
-  block-counts : countedBy (b .answer) ≡ length (blockReading (rest ++ b .new) (b .ended) .frames)
+  block-counts : countedBy (b .answer) ≡ length (readingOf rest b .frames)
   block-counts = rw says
 
 -- How a line goes on in blocks from what was read of it before.

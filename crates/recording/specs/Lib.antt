@@ -8,3 +8,4 @@ pub mod KeepLaws
 pub mod MoreLaws
 pub mod Certain
 pub mod Blocks
+pub mod Examples
