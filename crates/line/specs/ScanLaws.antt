@@ -184,5 +184,8 @@ more x y =
     record { place = g .place; frames = g .frames; kept = g .kept }
 
 -- One symbol more.
-pub one-more : (x : List Symbol) (s : Symbol) → More x (s ∷ [])
+abbrev pub OneMore : List Symbol → Symbol → Type 0
+OneMore x s = More x (s ∷ [])
+
+pub one-more : (x : List Symbol) (s : Symbol) → OneMore x s
 one-more x s = more x (s ∷ [])
