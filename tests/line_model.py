@@ -168,6 +168,12 @@ def output(line):
         "blocks of 1 to 300 bytes: 300 the same, 0 differ",
         "ended with their last bytes: 300 the same, 0 differ",
         "too little memory: refused with 1, nothing written",
+        "too little text memory: refused with 1, nothing written",
+        "too little frames memory: refused with 1, nothing written",
+        "too little of both: refused with 1, nothing written",
+        "a rest that ends before it begins: 0 kept, nothing moved",
+        "a rest that ends behind the buffer: 0 kept, nothing moved",
+        "a rest with both faults: 0 kept, nothing moved",
     ]
 
 

@@ -9,6 +9,7 @@ ghost use lib.ListN.{length};
 use gathered::Gathered;
 use libc::STDIN_FILENO;
 use libc::STDOUT_FILENO;
+use listing::block::BlockListed;
 use recording::BlockAnswer;
 
 // The sizes of blocks that deliver the same as the calls, and those that do not.
@@ -140,13 +141,9 @@ fn say_tally(words: &[u8], tally: Tally) {
     io::write_all(STDOUT_FILENO, b" differ\n");
 }
 
-// Writes what a block was answered that has too little memory.
-fn say_refusal(answer: BlockAnswer, untouched: bool) {
-    let BlockAnswer::Refused(number) = answer else {
-        io::write_all(STDOUT_FILENO, b"too little memory: not refused\n");
-        return;
-    };
-    io::write_all(STDOUT_FILENO, b"too little memory: refused with ");
+// Writes that a call was refused, and whether the memory lent to it is as it was.
+fn say_refused(number: u8, untouched: bool) {
+    io::write_all(STDOUT_FILENO, b"refused with ");
     io::print_decimal(STDOUT_FILENO, number as u64);
     if untouched {
         io::write_all(STDOUT_FILENO, b", nothing written\n");
@@ -155,16 +152,84 @@ fn say_refusal(answer: BlockAnswer, untouched: bool) {
     io::write_all(STDOUT_FILENO, b", memory changed\n");
 }
 
-// Reads the first 300 bytes of the line as a block, with an output buffer of one byte less.
-fn refuse(line: &[u8]) {
-    if line.len() < 300 {
-        io::write_all(STDOUT_FILENO, b"too little memory: the line is too short\n");
+// Reads the block with memory for its frames, and writes whether that is refused.
+fn refuse_reading(words: &[u8], block: &[u8], out: &mut [u8]) {
+    io::write_all(STDOUT_FILENO, words);
+    let answer = recording::read_block(block, true, out);
+    let BlockAnswer::Refused(number) = answer else {
+        io::write_all(STDOUT_FILENO, b"not refused\n");
+        return;
+    };
+    say_refused(number, is_filled(out));
+}
+
+// Lists the block with memory for its frames and their text, and writes whether that is refused.
+fn refuse_listing(words: &[u8], block: &[u8], frames: &mut [u8], text: &mut [u8]) {
+    io::write_all(STDOUT_FILENO, words);
+    let listed = listing::block::list_block(block, true, frames, text);
+    let BlockListed::Refused(number) = listed else {
+        io::write_all(STDOUT_FILENO, b"not refused\n");
+        return;
+    };
+    say_refused(number, is_filled(frames) && is_filled(text));
+}
+
+// Whether every byte is A5, with which memory is filled before a call.
+fn is_filled(memory: &[u8]) -> bool {
+    let mut i = 0;
+    while i < memory.len() {
+        if memory[i] != 0xA5 {
+            return false;
+        }
+        i += 1;
+    }
+    true
+}
+
+// Keeps a rest between these places of a buffer that holds the block, and writes how much is kept and whether any is moved.
+fn refuse_rest(words: &[u8], block: &[u8], rest: usize, end: usize) {
+    let mut buffer = [0u8; 300];
+    if block.len() != 300 {
         return;
     }
-    let mut memory = [0xA5u8; 299];
-    let untouched = [0xA5u8; 299];
-    let answer = recording::read_block(&line[..300], true, &mut memory);
-    say_refusal(answer, check::same(&memory, &untouched));
+    bytes::copy(block, &mut buffer);
+    let kept = recording::rest::keep_rest(&mut buffer, rest, end);
+    io::write_all(STDOUT_FILENO, words);
+    io::print_decimal(STDOUT_FILENO, kept as u64);
+    if check::same(&buffer, block) {
+        io::write_all(STDOUT_FILENO, b" kept, nothing moved\n");
+        return;
+    }
+    io::write_all(STDOUT_FILENO, b" kept, some moved\n");
+}
+
+// Gives the block of 300 bytes to each call with one byte too little of each memory and of both, and with bad places.
+fn refuse_block(block: &[u8]) {
+    let mut short = [0xA5u8; 299];
+    let mut frames = [0xA5u8; 300];
+    let mut short_text = [0xA5u8; 599];
+    let mut text = [0xA5u8; 600];
+    refuse_reading(b"too little memory: ", block, &mut short);
+    refuse_listing(
+        b"too little text memory: ",
+        block,
+        &mut frames,
+        &mut short_text,
+    );
+    refuse_listing(b"too little frames memory: ", block, &mut short, &mut text);
+    refuse_listing(b"too little of both: ", block, &mut short, &mut short_text);
+    refuse_rest(b"a rest that ends before it begins: ", block, 200, 100);
+    refuse_rest(b"a rest that ends behind the buffer: ", block, 100, 301);
+    refuse_rest(b"a rest with both faults: ", block, 302, 301);
+}
+
+// Gives the first 300 bytes of the line to every call that can refuse them.
+fn refuse(line: &[u8]) {
+    if line.len() < 300 {
+        io::write_all(STDOUT_FILENO, b"the line is too short\n");
+        return;
+    }
+    refuse_block(&line[..300]);
 }
 
 // Reads the line in every way.

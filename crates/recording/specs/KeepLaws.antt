@@ -2,48 +2,45 @@
 use Prim.Native.Nat.{ℕ, _+_, _-_, _≤_, _<_}
 use native.Mathlib.Omega.{arith}
 use mathlib.Core.Path.{_≡_, refl, ap, sym, _∙_}
-use mathlib.Core.List.{List, [], _∷_, map}
+use mathlib.Core.List.{List, map, map-id}
 use lib.ListN.{length, take, drop, getD, set, length-drop, length-map}
 use lib.Seq.{getD-drop, getD-take, length-take-le}
 use lib.Dec.{leb}
 use borrow.Author.Tests.{le-leb, lt-leb, leb-true}
+use Rattle.bytes.specs.Bytes.{slice}
 use Rattle.frame.specs.Memory.{Outcome, outcome, over}
 use Rattle.frame.specs.MemoryLaws.{Mapping, mapping-start, mapping-next, mapping-end, over-behind, pick-cases}
-use Rattle.recording.specs.Rest.{between, restKept}
+use Rattle.recording.specs.Rest.{restKept}
 
 -- A byte as it is.
 abbrev pub itself : ℕ → ℕ
 itself b = b
 
-map-itself : (l : List ℕ) → map itself l ≡ l
-map-itself [] = refl
-map-itself (b ∷ l) = ap (λ (k : List ℕ). b ∷ k) (map-itself l)
-
 -- So many bytes stand between two places of a buffer.
-pub between-length : (rest end : ℕ) (buffer : List ℕ) → end ≤ length buffer → length (between rest end buffer) ≡ end - rest
-unfolding between
-between-length rest end buffer h = rw (length-drop, length-take-le)
+pub slice-length : (rest end : ℕ) (buffer : List ℕ) → end ≤ length buffer → length (slice rest end buffer) ≡ end - rest
+unfolding slice
+slice-length rest end buffer h = rw (length-drop, length-take-le)
 
 -- The first `i` of them stand over the front of the buffer as it was.
 abbrev pub Moving : ℕ → ℕ → List ℕ → ℕ → List ℕ → Type 0
-Moving rest end before i buffer = Mapping itself (between rest end before) before i buffer
+Moving rest end before i buffer = Mapping itself (slice rest end before) before i buffer
 
 module _ {rest end : ℕ} {before : List ℕ} (o : rest ≤ end) (h : end ≤ length before) where
   pub moving-start : Moving rest end before 0 before
-  moving-start = mapping-start (omega (arith, between-length rest end before h))
+  moving-start = mapping-start (omega (arith, slice-length rest end before h))
 
   pub moving-next : {i : ℕ} {buffer : List ℕ} → Moving rest end before i buffer → i < end - rest →
       Moving rest end before (i + 1) (set buffer i (getD buffer (rest + i) 0))
-  unfolding between
+  unfolding slice
   moving-next {i} {buffer} m l =
-      let size : length (drop rest (take end before)) ≡ end - rest = between-length rest end before h in
+      let size : length (drop rest (take end before)) ≡ end - rest = slice-length rest end before h in
       let few : length (map itself (take i (drop rest (take end before)))) ≡ i = length-map (take i (drop rest (take end before))) itself ∙ length-take-le i (drop rest (take end before)) (m .passed) in
       let there : getD buffer (rest + i) 0 ≡ getD before (rest + i) 0 = rw (m .so-far) (over-behind (map itself (take i (drop rest (take end before)))) before (rest + i) (omega arith) (omega arith)) in
       let same : getD (drop rest (take end before)) i 0 ≡ getD before (rest + i) 0 = getD-drop rest (take end before) i 0 ∙ getD-take end before (rest + i) 0 (omega arith) in
       mapping-next m (omega arith) (there ∙ sym same)
 
-  pub moving-end : {i : ℕ} {buffer : List ℕ} → Moving rest end before i buffer → end - rest ≤ i → buffer ≡ over (between rest end before) before
-  moving-end m l = mapping-end m (omega (arith, between-length rest end before h)) ∙ ap (λ (k : List ℕ). over k before) (map-itself (between rest end before))
+  pub moving-end : {i : ℕ} {buffer : List ℕ} → Moving rest end before i buffer → end - rest ≤ i → buffer ≡ over (slice rest end before) before
+  moving-end m l = mapping-end m (omega (arith, slice-length rest end before h)) ∙ ap (λ (k : List ℕ). over k before) (map-id (slice rest end before))
 
 -- What each way out comes to.
 module _ (rest end : ℕ) (buffer : List ℕ) where
@@ -55,16 +52,16 @@ module _ (rest end : ℕ) (buffer : List ℕ) where
   unfolding restKept
   kept-beyond o h = rw (le-leb _ _ o, lt-leb _ _ h)
 
-  pub kept-moved : rest ≤ end → end ≤ length buffer → outcome (end - rest) (over (between rest end buffer) buffer) ≡ restKept rest end buffer
+  pub kept-moved : rest ≤ end → end ≤ length buffer → outcome (end - rest) (over (slice rest end buffer) buffer) ≡ restKept rest end buffer
   unfolding restKept
-  kept-moved o h = rw (le-leb _ _ o, le-leb _ _ h, between-length rest end buffer h)
+  kept-moved o h = rw (le-leb _ _ o, le-leb _ _ h, slice-length rest end buffer h)
 
   -- No more are kept than stand between the places.
   pub kept-few : {r : ℕ} {m : List ℕ} → outcome r m ≡ restKept rest end buffer → r ≤ end - rest
   unfolding restKept
   kept-few {r} {m} =
       pick-cases P (leb rest end)
-      (λ o. pick-cases P (leb end (length buffer)) (λ h e. omega (arith, ap (λ (q : Outcome ℕ). q .answer) e, between-length rest end buffer (leb-true _ _ h))) (λ h. none))
+      (λ o. pick-cases P (leb end (length buffer)) (λ h e. omega (arith, ap (λ (q : Outcome ℕ). q .answer) e, slice-length rest end buffer (leb-true _ _ h))) (λ h. none))
       (λ o. none)
     where
       P : Outcome ℕ → Type 0

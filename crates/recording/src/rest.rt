@@ -2,13 +2,14 @@
 ghost use mathlib.Core.Path.{_≡_};
 ghost use Prim.Native.Nat.{_≤_};
 ghost use lib.ListN.{length};
+ghost use Rattle.bytes.specs.Bytes.{slice};
 ghost use Rattle.frame.specs.Memory.{outcome, over};
-ghost use Rattle.recording.specs.Rest.{between, restKept};
+ghost use Rattle.recording.specs.Rest.{restKept};
 
 // Moves the bytes from `rest` up to `end` to the front.
 fn move_to_front(buffer: &mut [u8], rest: usize, end: usize)
     requires { ⌜ (rest ≤ end) × (end ≤ length (now buffer)) ⌝ }
-    ensures { λ _. ⌜ now (buffer .exit) ≡ over (between rest end (now (buffer .entry))) (now (buffer .entry)) ⌝ }
+    ensures { λ _. ⌜ now (buffer .exit) ≡ over (slice rest end (now (buffer .entry))) (now (buffer .entry)) ⌝ }
 {
     let mut i = 0;
     while i < end - rest {

@@ -5,8 +5,8 @@ ghost use lib.ListN.{length};
 ghost use Rattle.recording.specs.Skip.{Passes};
 ghost use mathlib.Core.Bool.{true};
 
-// Says so only where no 68 stands among the `width` bytes from `at` on. Every byte is looked at, without a way out on the first: so the
-// compiler compares many at once.
+// Whether no 68 stands among the `width` bytes from `at` on; what is promised is that it never says so wrongly. Every byte is
+// looked at, without a way out on the first 68, so that the compiler compares many at once.
 fn is_clear(line: &[u8], at: usize, width: usize) -> bool
     requires { ⌜ at + width ≤ length (now line) ⌝ }
     ensures { λ r. ⌜ (r ≡ true → Passes (now (line .entry)) at (at + width)) ⌝ }
@@ -48,7 +48,8 @@ fn near_end(from: usize, end: usize) -> usize
     end
 }
 
-// The first place from `from` on where a 68 stands, or the end. A start is mostly near, behind wake-up bytes.
+// The first place from `from` on where a 68 stands, or the end; what is promised is that no 68 is passed over. A start is mostly
+// near, behind wake-up bytes.
 pub(crate) fn next_start(line: &[u8], from: usize) -> usize
     requires { ⌜ from ≤ length (now line) ⌝ }
     ensures { λ r. ⌜ Passes (now (line .entry)) from r ⌝ }

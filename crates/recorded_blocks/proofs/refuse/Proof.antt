@@ -1,8 +1,9 @@
 -- The part that is lent is as long as was asked, since a test says that the line is no shorter.
+use Prim.Native.Nat.{_-_}
 use mathlib.Core.Path.{sym}
 use native.Mathlib.Omega.{arith}
-use borrow.Author.Needs.{needs}
 use lib.Seq.{length-take-le}
+use borrow.Author.Needs.{needs}
 use Rattle.recorded_blocks.proofs.refuse.Statement.{statement}
 use Rattle.recorded_blocks.proofs.refuse.Tie as tie
 
@@ -15,26 +16,11 @@ write-all-requires c κs = search needs
 returns : tie.Need-returns
 returns c = search needs
 
-slice-aggregate-read-block : tie.Need-slice-aggregate-read-block
-slice-aggregate-read-block c = sym (length-take-le 300 (c .before .before .before .args .line .now) (omega arith))
+slice-aggregate-refuse-block : tie.Need-slice-aggregate-refuse-block
+slice-aggregate-refuse-block c = sym (length-take-le 300 (c .before .before .before .args .line .now) (omega arith))
 
-slice-aggregate-read-block-2 : tie.Need-slice-aggregate-read-block-2
-slice-aggregate-read-block-2 c = search needs
-
-read-block-requires : tie.Need-read-block-requires
-read-block-requires c κs = search needs
-
-slice-aggregate-same : tie.Need-slice-aggregate-same
-slice-aggregate-same c = search needs
-
-slice-aggregate-same-2 : tie.Need-slice-aggregate-same-2
-slice-aggregate-same-2 c = search needs
-
-same-requires : tie.Need-same-requires
-same-requires c κs = search needs
-
-say-refusal-requires : tie.Need-say-refusal-requires
-say-refusal-requires c κs = search needs
+refuse-block-requires : tie.Need-refuse-block-requires
+refuse-block-requires c κs = search needs
 
 returns-2 : tie.Need-returns-2
 returns-2 c = search needs
@@ -46,11 +32,6 @@ refuse-spec =
     slice-aggregate-write-all
     write-all-requires
     returns
-    slice-aggregate-read-block
-    slice-aggregate-read-block-2
-    read-block-requires
-    slice-aggregate-same
-    slice-aggregate-same-2
-    same-requires
-    say-refusal-requires
+    slice-aggregate-refuse-block
+    refuse-block-requires
     returns-2)
