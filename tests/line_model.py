@@ -1,8 +1,8 @@
 #!/usr/bin/env python3
-"""The reading of the line, written from document 01 alone, and a hard recorded line for the program recorded_blocks.
+"""The reading of the line, written from document 01 alone, and a hard recorded line for the program run_blocks.
 It runs from the root of the repository:
 
-    python3 tests/line_model.py write       writes crates/recorded_blocks/stdin and stdout
+    python3 tests/line_model.py write       writes crates/run_blocks/stdin and stdout
     python3 tests/line_model.py selftest
 
 It shares nothing with the Rattle sources. `write` makes the line, from a fixed seed, and works out the frames taken in it; `selftest` puts
@@ -15,7 +15,7 @@ sys.dont_write_bytecode = True  # no compiled copies beside the sources
 
 from wire import frame, listed, parse
 
-FOLDER = "crates/recorded_blocks/"
+FOLDER = "crates/run_blocks/"
 SILENCE = None  # the other symbols are bytes
 
 

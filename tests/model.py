@@ -1,9 +1,9 @@
 #!/usr/bin/env python3
-"""A second meter and reader's end, written from document 01 and the standard alone, that work out what the program script must write.
+"""A second meter and reader's end, written from document 01 and the standard alone, that work out what the program run_script must write.
 It runs from the root of the repository:
 
-    python3 tests/model.py script > crates/script/stdin
-    python3 tests/model.py output < crates/script/stdin > crates/script/stdout
+    python3 tests/model.py script > crates/run_script/stdin
+    python3 tests/model.py output < crates/run_script/stdin > crates/run_script/stdout
     python3 tests/model.py selftest
 
 It shares nothing with the Rattle sources. `script` writes the calls, `output` answers them, `selftest` compares the model with the frames

@@ -4,7 +4,7 @@ use Prim.Native.Nat.{ℕ}
 use mathlib.Core.List.{List, [], _∷_}
 use mathlib.Core.Bool.{Bool, true, _&&_}
 use lib.ListN.{getD, set, take, replicate}
-use Rattle.frame.specs.Memory.{pick}
+use Rattle.laws.specs.Memory.{pick}
 use Rattle.item.specs.Content.{within}
 use Rattle.energy.specs.Reading.{Reading, zeroReading, readingInRange, plusAmount}
 

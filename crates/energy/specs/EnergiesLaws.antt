@@ -8,7 +8,7 @@ use borrow.Author.Tests.{leb-true}
 use lib.Dec.{leb}
 use lib.ListN.{length, getD, set, take}
 use Rattle.item.specs.Content.{within}
-use Rattle.item.specs.DecimalLaws.{packed-length}
+use Rattle.item_decimal.specs.DecimalLaws.{packed-length}
 use Rattle.energy.specs.Reading.{Reading, readingInRange, readingBytes}
 use Rattle.energy.specs.Energies.{Rows, rowInRange, rowsInRange, isRate, pulsedRow, pulsedRows, settled}
 use Rattle.energy.specs.TestLaws.{TestOfAll}

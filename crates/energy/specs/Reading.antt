@@ -3,7 +3,7 @@ use Prim.Native.Nat.{ℕ, _+_, _%_}
 use mathlib.Core.List.{List}
 use mathlib.Core.Bool.{Bool}
 use lib.Dec.{leb}
-use Rattle.item.specs.Decimal.{packed}
+use Rattle.item_decimal.specs.Decimal.{packed}
 
 abbrev pub Reading : Type 0
 Reading = ℕ

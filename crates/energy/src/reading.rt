@@ -1,14 +1,14 @@
 // A reading: hundredths of a kWh, 0 to 99,999,999. Only this file and specs/Reading.antt know that it is a number.
-use item::decimal::pack;
+use item_decimal::pack;
 ghost use mathlib.Core.Path.{_≡_};
 ghost use Rattle.energy.specs.Reading.{readingInRange, readingBytes, plusAmount};
 
 pub type Reading = u32;
 
-pub const ZERO: Reading = 0;
+pub(crate) const ZERO: Reading = 0;
 
 // Whether a reading is within its range.
-pub fn is_in_range(reading: Reading) -> bool
+pub(crate) fn is_in_range(reading: Reading) -> bool
     ensures { λ r. ⌜ r ≡ readingInRange reading ⌝ }
 {
     reading <= 99999999
@@ -24,7 +24,7 @@ pub fn bytes_of(reading: Reading) -> [u8; 4]
 }
 
 // A reading with an amount added, modulo 100,000,000.
-pub fn plus(reading: Reading, amount: u32) -> Reading
+pub(crate) fn plus(reading: Reading, amount: u32) -> Reading
     ensures { λ r. ⌜ r ≡ plusAmount reading amount ⌝ }
 {
     ((reading as u64 + amount as u64) % 100000000) as u32

@@ -7,28 +7,40 @@ use mathlib.Core.Bool.{Bool, true, false, _&&_}
 use native.Mathlib.Omega.{arith}
 use lib.ListN.{length}
 use lib.Dec.{leb, eqb}
-use Rattle.frame.specs.Memory.{Outcome, pick}
+use borrow.Author.Tests.{eqb-true}
+use Rattle.laws.specs.Memory.{Outcome, pick}
 use Rattle.frame.specs.Refusals.{badArgument}
-use Rattle.frame.specs.MemoryLaws.{pick-cases}
-use Rattle.item.specs.Address.{isGood}
-use Rattle.frame.specs.Writing.{writing}
-use Rattle.frame.specs.declared.Written.{Written}
-use Rattle.frame.specs.declared.Written.the-variants.{Length}
+use Rattle.laws.specs.MemoryLaws.{pick-cases}
+use Rattle.item_address.specs.Address.{isGood}
+use Rattle.frame_parts.specs.Writing.{writing}
+use Rattle.frame_parts.specs.declared.Written.{Written}
+use Rattle.frame_parts.specs.declared.Written.the-variants.{Length}
 use Rattle.energy.specs.Energies.{Rows, isRate}
-use Rattle.line.specs.Line.{Symbol}
+use Rattle.line_terms.specs.Line.{Symbol}
 use Rattle.line.specs.Receiver.{withinRange, refused, delivered, called}
 use Rattle.line.specs.declared.Receiver.{Receiver}
 use Rattle.line.specs.declared.Received.{Received}
 use Rattle.line.specs.declared.Answer.the-variants as receiving
+use Rattle.item.specs.Table.{itemOf, hasLength}
+use Rattle.item.specs.declared.table.Lookup.{Lookup}
+use Rattle.item.specs.declared.table.Lookup.the-variants.{Listed, NotListed}
+use Rattle.meter_holding.specs.Holding as holding
+use Rattle.item.specs.declared.table.Item.{Item}
+use Rattle.meter_holding.specs.Holding.{placeOf, registersWith, writtenOf, valueWritten, registersOf, registersAfter}
+use Rattle.meter_holding.specs.declared.place.Place.{Place}
+use Rattle.meter_holding.specs.declared.place.Place.the-variants.{Readings, OwnAddress, Register}
+use Rattle.meter_holding.specs.declared.Held.{Held}
+use Rattle.meter_holding.specs.declared.Held.the-variants as held
 use Rattle.meter.specs.Meter.{freshMeter, withinRanges}
-use Rattle.meter.specs.Host.{energiesOf, created, keySet, pulsedBy, settledBy}
-use Rattle.meter.specs.Answer.{answered}
-use Rattle.meter.specs.Answer.{delivered as replied}
+use Rattle.meter_counting.specs.Counting as counting
+use Rattle.meter.specs.Host.{created, keySet, pulsedBy, settledBy}
+use Rattle.meter_counting.specs.Counting.{energiesOf}
+use Rattle.meter.specs.Answer.{answered, delivered as replied}
 use Rattle.meter.specs.AnswerLaws.{Answers, refuses, errs, carries, answers, not-replied}
 use Rattle.meter.specs.declared.Meter.{Meter}
 use Rattle.meter.specs.declared.KeySet.{KeySet}
-use Rattle.meter.specs.declared.Counted.{Counted}
-use Rattle.meter.specs.declared.HostAnswer.the-variants as host
+use Rattle.meter_counting.specs.declared.Counted.{Counted}
+use Rattle.meter_counting.specs.declared.HostAnswer.the-variants as host
 use Rattle.meter.specs.declared.FrameAnswer.{FrameAnswer}
 use Rattle.meter.specs.declared.FrameAnswer.the-variants as frames
 use Rattle.reader.specs.Allowed.{isAllowed}
@@ -37,7 +49,7 @@ use Rattle.reader.specs.Judging.{judged}
 use Rattle.reader.specs.declared.Request.{Request}
 use Rattle.reader.specs.declared.Built.{Built}
 use Rattle.reader.specs.declared.Built.the-variants as building
-use Rattle.reader.specs.declared.Judgement.the-variants as judging
+use Rattle.reader_judgement.specs.declared.Judgement.the-variants as judging
 use Rattle.exchange.specs.Exchange.{Memories, ExchangeOutcome, enough, concludedBy, concluded, carried, exchanged}
 use Rattle.exchange.specs.declared.ExchangeAnswer.the-variants as exchanging
 
@@ -57,12 +69,25 @@ pub record RefusalsChangeNothing : Type 0 where
       → pulsedBy amount direction rate m forward reverse .energies ≡ energiesOf forward reverse
   pub settle : (m : Meter) (forward reverse : Rows) (n : ℕ) → settledBy m forward reverse .answer ≡ host.Refused n
       → settledBy m forward reverse .energies ≡ energiesOf forward reverse
+  -- A pulse and a settlement counted, whatever the caller says of the ranges.
+  pub count-pulse : (amount direction rate : ℕ) (within : Bool) (forward reverse : Rows) (n : ℕ)
+      → counting.pulsedBy amount direction rate within forward reverse .answer ≡ host.Refused n
+      → counting.pulsedBy amount direction rate within forward reverse .energies ≡ energiesOf forward reverse
+  pub count-settle : (within : Bool) (forward reverse : Rows) (n : ℕ) → counting.settledBy within forward reverse .answer ≡ host.Refused n
+      → counting.settledBy within forward reverse .energies ≡ energiesOf forward reverse
   -- A frame put to a meter, and a frame that is not written.
   pub frame : (bytes : List ℕ) (m : Meter) (forward reverse : Rows) (memory : List ℕ) (n : ℕ)
       → answered bytes m forward reverse memory .answer .answer ≡ frames.Refused n
       → (answered bytes m forward reverse memory .answer .meter ≡ m) × (answered bytes m forward reverse memory .memory ≡ memory)
   pub write-frame : (address : List ℕ) (control : ℕ) (meant m : List ℕ) → ((n : ℕ) → writing address control meant m .answer ≡ Length n → ⊥)
       → writing address control meant m .memory ≡ m
+  -- A value that is not written, and registers that take none.
+  pub write-value : (identifier : ℕ) (address registers : List ℕ) (forward reverse : Rows) (m : List ℕ)
+      → ((n : ℕ) → valueWritten identifier address registers forward reverse m .answer ≡ held.Length n → ⊥)
+      → valueWritten identifier address registers forward reverse m .memory ≡ m
+  pub with-value : (identifier : ℕ) (value registers : List ℕ)
+      → ((item : Item) (at : ℕ) → itemOf identifier ≡ Listed item → placeOf (item .kind) ≡ Register at → length value ≡ item .length → ⊥)
+      → registersAfter identifier value registers ≡ registers
   -- The reader's end.
   pub build : (request : Request) (m : List ℕ) (n : ℕ) → built request m .answer ≡ building.Refused n → built request m .memory ≡ m
   pub judge : (request : Request) (bytes m : List ℕ) (n : ℕ) → judged request bytes m .answer ≡ judging.Refused n → judged request bytes m .memory ≡ m
@@ -85,7 +110,7 @@ receiver-kept s r m n =
 
 fresh-out-of-range : (address : List ℕ) (n : ℕ) → created address .answer ≡ host.Refused n
     → withinRanges (created address .meter) (created address .energies .forward) (created address .energies .reverse) ≡ false
-unfolding created withinRanges freshMeter
+unfolding created holding.withinRanges freshMeter
 fresh-out-of-range address n = go (isGood address) _
   where
     go : (good rest : Bool) → pick good host.Done (host.Refused badArgument) ≡ host.Refused n → (good && rest) ≡ false
@@ -104,11 +129,11 @@ key-kept on m forward reverse n =
 abbrev ReadingsKept : Rows → Rows → ℕ → Counted → Type 0
 ReadingsKept forward reverse n c = c .answer ≡ host.Refused n → c .energies ≡ energiesOf forward reverse
 
-pulse-kept : (amount direction rate : ℕ) (m : Meter) (forward reverse : Rows) (n : ℕ)
-    → ReadingsKept forward reverse n (pulsedBy amount direction rate m forward reverse)
-unfolding pulsedBy
-pulse-kept amount direction rate m forward reverse n =
-    pick-cases P (withinRanges m forward reverse)
+pulse-kept : (amount direction rate : ℕ) (within : Bool) (forward reverse : Rows) (n : ℕ)
+    → ReadingsKept forward reverse n (counting.pulsedBy amount direction rate within forward reverse)
+unfolding counting.pulsedBy
+pulse-kept amount direction rate within forward reverse n =
+    pick-cases P within
     (λ _. pick-cases P (leb direction 1 && isRate rate)
     (λ _. pick-cases P (eqb direction 0) (λ _ e. absurd (let z : _≡_ {A = ℕ} 0 1 = cc in omega arith))
     (λ _ e. absurd (let z : _≡_ {A = ℕ} 0 1 = cc in omega arith)))
@@ -118,10 +143,10 @@ pulse-kept amount direction rate m forward reverse n =
     P : Counted → Type 0
     P = ReadingsKept forward reverse n
 
-settle-kept : (m : Meter) (forward reverse : Rows) (n : ℕ) → ReadingsKept forward reverse n (settledBy m forward reverse)
-unfolding settledBy
-settle-kept m forward reverse n =
-    pick-cases (ReadingsKept forward reverse n) (withinRanges m forward reverse)
+settle-kept : (within : Bool) (forward reverse : Rows) (n : ℕ) → ReadingsKept forward reverse n (counting.settledBy within forward reverse)
+unfolding counting.settledBy
+settle-kept within forward reverse n =
+    pick-cases (ReadingsKept forward reverse n) within
     (λ _ e. absurd (let z : _≡_ {A = ℕ} 0 1 = cc in omega arith))
     (λ _ e. refl)
 
@@ -147,6 +172,36 @@ unwritten-kept address control meant m =
   where
     P : Outcome Written → Type 0
     P o = ((n : ℕ) → o .answer ≡ Length n → ⊥) → o .memory ≡ m
+
+value-kept : (identifier : ℕ) (address registers : List ℕ) (forward reverse : Rows) (m : List ℕ)
+    → ((n : ℕ) → valueWritten identifier address registers forward reverse m .answer ≡ held.Length n → ⊥)
+    → valueWritten identifier address registers forward reverse m .memory ≡ m
+unfolding valueWritten
+value-kept identifier address registers forward reverse m = go (itemOf identifier)
+  where
+    P : Outcome Held → Type 0
+    P o = ((n : ℕ) → o .answer ≡ held.Length n → ⊥) → o .memory ≡ m
+
+    go : (l : Lookup) → P (writtenOf l address registers forward reverse m)
+    go NotListed = λ h. refl
+    go (Listed item) = pick-cases P (leb (item .length) (length m)) (λ _ h. absurd (h (item .length) refl)) (λ _ h. refl)
+
+registers-kept : (identifier : ℕ) (value registers : List ℕ)
+    → ((item : Item) (at : ℕ) → itemOf identifier ≡ Listed item → placeOf (item .kind) ≡ Register at → length value ≡ item .length → ⊥)
+    → registersAfter identifier value registers ≡ registers
+unfolding registersAfter registersWith
+registers-kept identifier value registers none = of-item (itemOf identifier) refl
+  where
+    at-place : (item : Item) (place : Place) → itemOf identifier ≡ Listed item → placeOf (item .kind) ≡ place → (t : Bool)
+        → eqb (length value) (item .length) ≡ t → pick t (registersWith place value registers) registers ≡ registers
+    at-place item (Readings direction rate rates row rows) listed e true h = refl
+    at-place item OwnAddress listed e true h = refl
+    at-place item (Register at) listed e true h = absurd (none item at listed e (eqb-true _ _ h))
+    at-place item place listed e false h = refl
+
+    of-item : (l : Lookup) → itemOf identifier ≡ l → pick (hasLength l (length value)) (registersOf l value registers) registers ≡ registers
+    of-item NotListed e = refl
+    of-item (Listed item) e = at-place item (placeOf (item .kind)) e refl (eqb (length value) (item .length)) refl
 
 build-kept : (request : Request) (m : List ℕ) (n : ℕ) → built request m .answer ≡ building.Refused n → built request m .memory ≡ m
 unfolding built
@@ -194,10 +249,14 @@ demand-1 =
       receiver = receiver-kept;
       fresh-meter = fresh-out-of-range;
       set-key = key-kept;
-      pulse = pulse-kept;
-      settle = settle-kept;
+      pulse = λ amount direction rate m forward reverse. pulse-kept amount direction rate (withinRanges m forward reverse) forward reverse;
+      settle = λ m forward reverse. settle-kept (withinRanges m forward reverse) forward reverse;
+      count-pulse = pulse-kept;
+      count-settle = settle-kept;
       frame = frame-kept;
       write-frame = unwritten-kept;
+      write-value = value-kept;
+      with-value = registers-kept;
       build = build-kept;
       judge = judge-kept;
       exchange = exchange-kept;

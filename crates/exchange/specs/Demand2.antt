@@ -12,7 +12,7 @@ use Rattle.meter.specs.declared.Meter.{Meter}
 use Rattle.reader.specs.Allowed.{isAllowed}
 use Rattle.reader.specs.AllowedWords.{AllowedInWords, allowed-words}
 use Rattle.reader.specs.Building.{requestFrame, requestBytes}
-use Rattle.reader.specs.declared.Action.the-variants.{WriteData}
+use Rattle.reader_judgement.specs.declared.Action.the-variants.{WriteData}
 use Rattle.reader.specs.declared.Request.{Request}
 use Rattle.exchange.specs.Exchange.{Memories}
 use Rattle.exchange.specs.Hearing.{Brings, DeliveredLast, delivered-last}

@@ -5,29 +5,30 @@ use mathlib.Core.List.{List, [], _∷_, _++_}
 use mathlib.Core.Bool.{true}
 use lib.ListN.{length}
 use lib.Dec.{eqb}
-use Rattle.frame.specs.Frame.{Bytes}
-use Rattle.frame.specs.Memory.{over, pick}
+use Rattle.frame.specs.Frame.{frameFor}
+use Rattle.laws.specs.Memory.{Bytes, over, pick}
 use Rattle.frame.specs.Refusals.{notForThisMeter}
-use Rattle.frame.specs.Writing.{frameFor}
-use Rattle.item.specs.Reply.{notAuthorised}
+use Rattle.item_command.specs.Reply.{notAuthorised}
 use Rattle.item.specs.Table.{itemOf}
 use Rattle.item.specs.declared.table.Kind.the-variants.{Energy}
 use Rattle.item.specs.declared.table.Item.{Item}
 use Rattle.item.specs.declared.table.Lookup.the-variants.{Listed}
 use Rattle.energy.specs.Energies.{Rows}
-use Rattle.meter.specs.Meter.{passwordAt, valueHeld}
+use Rattle.meter.specs.Meter.{valueHeld}
+use Rattle.meter_decision.specs.Decision.{passwordAt}
 use Rattle.meter.specs.Ranges.{InRanges}
 use Rattle.meter.specs.Answer.{valueOf}
 use Rattle.meter.specs.Silence.{IsFor}
 use Rattle.meter.specs.declared.Meter.{Meter}
-use Rattle.meter.specs.declared.request.Command.{Command}
-use Rattle.meter.specs.declared.request.Command.the-variants as command
+use Rattle.item_command.specs.declared.Command.{Command}
+use Rattle.item_command.specs.declared.Command.the-variants as command
 use Rattle.reader.specs.Allowed.{Sized, requestValue}
-use Rattle.reader.specs.Building.{identifierBytes, sentTo, requestFrame, requestBytes}
-use Rattle.reader.specs.declared.Action.{Action}
-use Rattle.reader.specs.declared.Action.the-variants.{ReadData, ReadAddress, WriteData}
+use Rattle.reader.specs.Building.{sentTo, requestFrame, requestBytes}
+use Rattle.item_identifier.specs.Identifier.{identifierBytes}
+use Rattle.reader_judgement.specs.declared.Action.{Action}
+use Rattle.reader_judgement.specs.declared.Action.the-variants.{ReadData, ReadAddress, WriteData}
 use Rattle.reader.specs.declared.Request.{Request}
-use Rattle.reader.specs.declared.Judgement.the-variants.{Value, Error}
+use Rattle.reader_judgement.specs.declared.Judgement.the-variants.{Value, Error}
 use Rattle.exchange.specs.Exchange.{Memories, memories, ExchangeOutcome, outcomeOf, exchangedWith, exchanged}
 use Rattle.exchange.specs.Readings.{decoded, columnsReadings}
 use Rattle.exchange.specs.declared.ExchangeAnswer.{ExchangeAnswer}
@@ -97,7 +98,7 @@ pub record ReadGives (request : Request) (m : Meter) (forward reverse : Rows) (l
 pub record Authorised (request : Request) (m : Meter) : Type 0 where
   pub key-on : m .key ≡ true
   pub level : request .level ≤ 4
-  pub password : request .password ≡ passwordAt (request .level) m
+  pub password : request .password ≡ passwordAt (request .level) (m .passwords)
 
 -- A write is answered 94, the meter holds the value and the operator code, and everything else is as it was.
 pub record WriteSets (request : Request) (m : Meter) (forward reverse : Rows) (lent : Memories) : Type 0 where

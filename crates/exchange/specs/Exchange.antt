@@ -5,7 +5,7 @@ use mathlib.Core.List.{List}
 use mathlib.Core.Bool.{Bool, _&&_}
 use lib.ListN.{length, take, drop}
 use lib.Dec.{leb}
-use Rattle.frame.specs.Memory.{Outcome, outcome, over, pick}
+use Rattle.laws.specs.Memory.{Outcome, outcome, over, pick}
 use Rattle.frame.specs.Refusals.{shortMemory, notAllowed, outOfRange}
 use Rattle.frame.specs.Frame.{Frame}
 use Rattle.energy.specs.Energies.{Rows}

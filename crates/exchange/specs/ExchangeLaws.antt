@@ -9,12 +9,12 @@ use lib.Seq.{take-at}
 use borrow.Author.Tests.{le-leb, leb-true}
 use Rattle.frame.specs.Frame.{Frame, dataOf}
 use Rattle.frame.specs.FrameLaws.{frame-for, frame-for-length}
-use Rattle.frame.specs.Memory.{Outcome, outcome, over}
-use Rattle.frame.specs.MemoryLaws.{pick-cases}
-use Rattle.item.specs.Reply.{replyTo}
+use Rattle.laws.specs.Memory.{Outcome, outcome, over}
+use Rattle.laws.specs.MemoryLaws.{pick-cases}
+use Rattle.item_command.specs.Reply.{replyTo}
 use Rattle.energy.specs.Energies.{Rows}
 use Rattle.meter.specs.Meter as meter
-use Rattle.meter.specs.Request.{controlFor}
+use Rattle.item_command.specs.Command.{controlFor}
 use Rattle.meter.specs.Answer.{replies, replyData, meterAfter, delivered, answered}
 use Rattle.meter.specs.AfterLaws.{sized-after}
 use Rattle.meter.specs.AnswerLaws.{Answers, refuses, errs, carries, answers}

@@ -5,7 +5,7 @@ use Rattle.frame.specs.Refusals.{notForThisMeter}
 use Rattle.energy.specs.Energies.{Rows}
 use Rattle.meter.specs.Meter.{Sized}
 use Rattle.meter.specs.Ranges.{InRanges}
-use Rattle.meter.specs.CommandLaws.{same-control}
+use Rattle.item_command.specs.CommandLaws.{same-control}
 use Rattle.meter.specs.Silence.{Foreign, foreign-silent}
 use Rattle.meter.specs.declared.Meter.{Meter}
 use Rattle.reader.specs.Allowed.{isAllowed}

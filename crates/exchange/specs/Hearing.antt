@@ -7,8 +7,8 @@ use mathlib.Core.List.{List, [], _∷_, _++_, map}
 use lib.ListN.{length, take, drop, getD, length-drop}
 use lib.Seq.{drop-cons}
 use Rattle.frame.specs.Frame.{Frame}
-use Rattle.frame.specs.Memory.{outcome, over}
-use Rattle.line.specs.Line.{byte}
+use Rattle.laws.specs.Memory.{outcome, over}
+use Rattle.line_terms.specs.Line.{byte}
 use Rattle.line.specs.Receiver.{fresh, called}
 use Rattle.line.specs.CallLaws.{HasReceived, fresh-received}
 use Rattle.line.specs.Demand3.{Call, Calls}

@@ -10,20 +10,20 @@ use lib.ListN.{length, take, drop, getD, replicate, take-append-drop, length-dro
 use lib.Seq.{take-all, take-suc, take-length, drop-length}
 use borrow.Author.Tests.{lt-leb}
 use Rattle.frame.specs.Frame.{Frame}
-use Rattle.frame.specs.Memory.{Outcome, outcome, over}
-use Rattle.frame.specs.MemoryLaws.{over-length}
+use Rattle.laws.specs.Memory.{Outcome, outcome, over}
+use Rattle.laws.specs.MemoryLaws.{over-length}
 use Rattle.frame.specs.Recognition.{recognised}
 use Rattle.frame.specs.RecognitionLaws.{frame-most, frame-whole, completes-open}
 use Rattle.frame.specs.declared.Recognised.the-variants.{Whole, Open}
-use Rattle.line.specs.Line.{Symbol, byte}
-use Rattle.line.specs.Places.{Found, joined}
-use Rattle.line.specs.Scan.{Reading, settled, before, scan}
-use Rattle.line.specs.ScanLaws.{scan-kept-open, place-joined}
+use Rattle.line_terms.specs.Line.{Symbol, byte}
+use Rattle.line_terms.specs.Places.{Found, joined}
+use Rattle.line_terms.specs.Scan.{Reading, settled, before, scan}
+use Rattle.line_terms.specs.ScanLaws.{scan-kept-open, place-joined}
 use Rattle.line.specs.Drain.{symbols, readingFrom}
 use Rattle.line.specs.DrainLaws.{reading-end, reading-whole, reading-neither, reading-open}
 use Rattle.line.specs.Receiver.{fresh, keptBytes, withinRange, readingWith, delivered, called}
 use Rattle.line.specs.CallLaws.{newFrames, new-after, HasReceived, received-most, fresh-received, Answers, ignores, delivers, answers}
-use Rattle.line.specs.VerdictLaws.{within-as}
+use Rattle.line_verdict.specs.VerdictLaws.{within-as}
 use Rattle.line.specs.StepLaws.{call-reads}
 use Rattle.line.specs.declared.Receiver.{Receiver}
 use Rattle.line.specs.declared.Received.{Received}

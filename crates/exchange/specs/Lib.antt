@@ -11,4 +11,3 @@ pub mod WritesAcross
 pub mod Foreign
 pub mod Demand2
 pub mod Demand1
-pub mod Cases

@@ -7,12 +7,12 @@ use mathlib.Core.Bool.{true}
 use mathlib.Core.List.{List, [], _∷_, _++_, append-assoc}
 use lib.ListN.{length, take, drop, getD}
 use lib.Seq.{take-at, drop-at}
-use Rattle.item.specs.Decimal.{unpacked}
-use Rattle.item.specs.DecimalLaws.{unpacked-packed}
+use Rattle.item_decimal.specs.Decimal.{unpacked}
+use Rattle.item_decimal.specs.DecimalLaws.{unpacked-packed}
 use Rattle.energy.specs.Reading.{Reading, zeroReading, readingInRange, readingBytes}
 use Rattle.energy.specs.Energies.{Rows, readingAt}
 use Rattle.energy.specs.EnergiesLaws.{reading-length}
-use Rattle.meter.specs.Columns.{columnBytes, columnsBytes}
+use Rattle.meter_holding.specs.Columns.{columnBytes, columnsBytes}
 use Rattle.meter.specs.Ranges.{RowInRange, RowsInRange, reading-most}
 
 -- So many numbers, of four packed bytes each.

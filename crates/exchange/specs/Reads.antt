@@ -8,39 +8,43 @@ use native.Mathlib.Omega.{arith}
 use lib.ListN.{length}
 use lib.Dec.{eqb}
 use borrow.Author.Tests.{eq-eqb}
-use Rattle.frame.specs.Frame.{dataOf}
-use Rattle.frame.specs.Memory.{outcome, over, pick}
-use Rattle.frame.specs.MemoryLaws.{pick-cases}
+use Rattle.frame.specs.Frame.{dataOf, frameFor}
+use Rattle.laws.specs.Memory.{outcome, over, pick}
+use Rattle.laws.specs.MemoryLaws.{pick-cases}
 use Rattle.frame.specs.RecognitionLaws.{bytes-append}
-use Rattle.frame.specs.Writing.{frameFor}
-use Rattle.item.specs.Decimal.{Decimal}
-use Rattle.item.specs.DecimalLaws.{decimal-bytes}
-use Rattle.item.specs.Reply.{controlCode, replyTo}
+use Rattle.item_decimal.specs.Decimal.{Decimal}
+use Rattle.item_decimal.specs.DecimalLaws.{decimal-bytes}
+use Rattle.item_command.specs.Reply.{controlCode, replyTo}
 use Rattle.item.specs.Table.{itemOf, hasLength}
 use Rattle.item.specs.TableLaws.{listed-most}
 use Rattle.energy.specs.Energies.{Rows}
-use Rattle.meter.specs.Answer.{checksOf, valueOf, replyData, meterAfter, answeredWith, delivered, answered}
+use Rattle.meter.specs.Answer.{valueOf, replyData, meterAfter, answeredWith, delivered, answered}
+use Rattle.meter_decision.specs.Decision.{checksOf}
 use Rattle.meter.specs.AnswerLaws.{Reaches, answered-normal}
-use Rattle.meter.specs.Meter.{Sized, placeOf, heldAt, valueHeld}
+use Rattle.meter.specs.Meter.{Sized, valueHeld}
+use Rattle.meter_holding.specs.Holding as holding
+use Rattle.meter_holding.specs.Holding.{placeOf, heldAt}
 use Rattle.meter.specs.MeterLaws.{value-length}
 use Rattle.meter.specs.Ranges.{RowsInRange, InRanges}
-use Rattle.meter.specs.Request.{identifierOf, itemAsked}
+use Rattle.meter_decision.specs.Request.{itemAsked}
+use Rattle.item_identifier.specs.Identifier.{identifierOf, identifierBytes}
 use Rattle.meter.specs.Silence.{ReadFor, IsFor}
 use Rattle.meter.specs.declared.Meter.{Meter}
 use Rattle.meter.specs.declared.FrameAnswer.the-variants.{Replied}
-use Rattle.meter.specs.declared.request.Command.the-variants as command
+use Rattle.item_command.specs.declared.Command.the-variants as command
 use Rattle.reader.specs.Allowed.{isAllowed}
 use Rattle.reader.specs.AllowedLaws.{admitted-read}
-use Rattle.reader.specs.Building.{identifierBytes, sentTo, sentData, requestFrame}
-use Rattle.reader.specs.Judging.{isNormal, answersFrom, replyValue}
-use Rattle.reader.specs.declared.Action.{Action}
-use Rattle.reader.specs.declared.Action.the-variants.{ReadData, ReadAddress, WriteData}
-use Rattle.reader.specs.declared.Judgement.the-variants.{Value}
+use Rattle.reader.specs.Building.{sentTo, sentData, requestFrame}
+use Rattle.reader_judgement.specs.Judging.{isNormal, answersFrom, replyValue}
+use Rattle.reader_judgement.specs.declared.Action.{Action}
+use Rattle.reader_judgement.specs.declared.Action.the-variants.{ReadData, ReadAddress, WriteData}
+use Rattle.reader_judgement.specs.declared.Judgement.the-variants.{Value}
 use Rattle.reader.specs.declared.Request.{Request}
 use Rattle.exchange.specs.Exchange.{Memories, exchanged}
 use Rattle.exchange.specs.Readings.{readings-decoded}
 use Rattle.exchange.specs.EndToEnd.{Typed, commandFor, MeantFor, IsRead, heldFor, replyFrame, EnoughMemory, comesTo, ReadGives}
-use Rattle.exchange.specs.Steps.{identifier-back, identifier-are-bytes, request-data, replied-exchange}
+use Rattle.exchange.specs.Steps.{request-data, replied-exchange}
+use Rattle.item_identifier.specs.IdentifierLaws.{identifier-back, identifier-are-bytes}
 use Rattle.exchange.specs.ReplyLaws.{read-answered, data-verdict, address-verdict, value-decimal, request-reaches}
 use Rattle.exchange.specs.declared.ExchangeAnswer.the-variants.{Judged}
 
@@ -135,7 +139,7 @@ module _ (request : Request) (typed : Typed request) (allowed : isAllowed reques
   outcome-by WriteData e reads meant = absurd reads
 
   pub read-gives : IsRead (request .action) → MeantFor request m → ReadGives request m forward reverse lent
-  unfolding valueHeld placeOf heldAt
+  unfolding holding.valueHeld placeOf heldAt
   read-gives reads meant =
       record {
         outcome = outcome-by (request .action) refl reads meant;

@@ -7,36 +7,39 @@ use mathlib.Core.Bool.{true, false, or-true, and-eq-true-iff}
 use native.Mathlib.Omega.{arith}
 use lib.ListN.{length, take, drop}
 use borrow.Author.Tests.{le-leb, eq-eqb}
-use Rattle.item.specs.Address.{Good, lowBytes, isShortCount, hasShortForm, isShort, shortMatches, ShortFor}
-use Rattle.item.specs.AddressLaws.{is-good, low-count, for-short}
-use Rattle.item.specs.Checks.{firstFailing}
-use Rattle.item.specs.Decimal.{Decimal}
-use Rattle.item.specs.DecimalLaws.{decimal-all, decimal-take, decimal-drop, decimal-join, packed-decimal}
-use Rattle.item.specs.Reply.{controlCode, replyTo}
-use Rattle.item.specs.Same.{same}
-use Rattle.item.specs.SameLaws.{same-equal, same-refl, equal-same}
+use Rattle.item_address.specs.Address.{Good, lowBytes, isShortCount, hasShortForm, isShort, shortMatches, ShortFor}
+use Rattle.item_address.specs.AddressLaws.{is-good, low-count, for-short}
+use Rattle.laws.specs.Checks.{firstFailing}
+use Rattle.item_decimal.specs.Decimal.{Decimal}
+use Rattle.item_decimal.specs.DecimalLaws.{decimal-all, decimal-take, decimal-drop, decimal-join, packed-decimal}
+use Rattle.item_command.specs.Reply.{controlCode, replyTo}
+use Rattle.item_same.specs.Same.{same}
+use Rattle.item_same.specs.SameLaws.{same-equal, same-refl, equal-same}
 use Rattle.item.specs.Table.{itemOf, hasLength}
 use Rattle.item.specs.declared.table.Item.{Item}
 use Rattle.energy.specs.Energies.{Rows, readingAt}
 use Rattle.energy.specs.Reading.{readingBytes}
 use Rattle.meter.specs.AnswerLaws.{Reaches}
-use Rattle.meter.specs.Columns.{columnBytes, columnsBytes}
-use Rattle.meter.specs.Meter.{Sized, placeOf, heldAt, valueHeld}
+use Rattle.meter_holding.specs.Columns.{columnBytes, columnsBytes}
+use Rattle.meter.specs.Meter.{Sized, valueHeld}
+use Rattle.meter_holding.specs.Holding as holding
+use Rattle.meter_holding.specs.Holding.{placeOf, heldAt}
 use Rattle.meter.specs.Ranges.{InRanges}
-use Rattle.meter.specs.Request.{controlFor, addressed}
+use Rattle.item_command.specs.Command.{controlFor, addressed}
 use Rattle.meter.specs.Silence.{ReadFor, exact, short, IsFor}
 use Rattle.meter.specs.declared.Meter.{Meter}
-use Rattle.meter.specs.declared.place.Place.{Place}
-use Rattle.meter.specs.declared.place.Place.the-variants.{Readings, OwnAddress, Register}
-use Rattle.meter.specs.declared.request.Command.{Command}
-use Rattle.meter.specs.declared.request.Command.the-variants as command
+use Rattle.meter_holding.specs.declared.place.Place.{Place}
+use Rattle.meter_holding.specs.declared.place.Place.the-variants.{Readings, OwnAddress, Register}
+use Rattle.item_command.specs.declared.Command.{Command}
+use Rattle.item_command.specs.declared.Command.the-variants as command
 use Rattle.reader.specs.Allowed.{isAllowed}
-use Rattle.reader.specs.Building as sent
-use Rattle.reader.specs.Building.{identifierBytes, sentTo, requestFrame}
-use Rattle.reader.specs.Judging.{isError, answersFrom, normalChecks, replyValue, verdict}
-use Rattle.reader.specs.declared.Action.{Action}
-use Rattle.reader.specs.declared.Action.the-variants.{ReadData, ReadAddress, WriteData}
-use Rattle.reader.specs.declared.Judgement.the-variants.{Value}
+use Rattle.reader_judgement.specs.Judging as sent
+use Rattle.reader.specs.Building.{sentTo, requestFrame}
+use Rattle.item_identifier.specs.Identifier.{identifierBytes}
+use Rattle.reader_judgement.specs.Judging.{isError, answersFrom, normalChecks, replyValue, verdict}
+use Rattle.reader_judgement.specs.declared.Action.{Action}
+use Rattle.reader_judgement.specs.declared.Action.the-variants.{ReadData, ReadAddress, WriteData}
+use Rattle.reader_judgement.specs.declared.Judgement.the-variants.{Value}
 use Rattle.reader.specs.declared.Request.{Request}
 use Rattle.exchange.specs.EndToEnd.{Typed, commandFor, MeantFor}
 use Rattle.exchange.specs.Steps.{address-six, request-frame, request-address, request-control}
@@ -109,10 +112,10 @@ columns-decimal rows rate (suc count) row span =
 
 -- What a meter within its ranges holds for an item is decimal.
 pub value-decimal : (item : Item) (m : Meter) (forward reverse : Rows) → InRanges m forward reverse → Decimal (valueHeld item m forward reverse)
-unfolding valueHeld heldAt
+unfolding holding.valueHeld heldAt
 value-decimal item m forward reverse ranges = go (placeOf (item .kind))
   where
-    go : (place : Place) → Decimal (heldAt place (item .length) m forward reverse)
+    go : (place : Place) → Decimal (heldAt place (item .length) (m .address) (m .registers) forward reverse)
     go (Readings direction rate rates row rows) = columns-decimal _ rate rates row rows
     go OwnAddress = ranges .address .decimal
     go (Register at) = decimal-take (item .length) (drop at (m .registers)) (decimal-drop at (m .registers) (ranges .registers))

@@ -1,57 +1,41 @@
 -- The steps of an exchange: the request's frame taken apart, an exchange that goes over the line, and a reply that is judged.
-use Prim.Native.Nat.{ℕ, _+_, _*_, _/_, _%_, _≤_, _<_}
+use Prim.Native.Nat.{ℕ, _+_, _≤_}
 use mathlib.Core.Path.{_≡_, refl, _∙_}
 use mathlib.Core.List.{List, [], _∷_, _++_, append-nil}
 use mathlib.Core.Bool.{true, _||_}
-use native.Mathlib.Nat.{div-div-eq-div-mul}
 use native.Mathlib.Omega.{arith}
 use lib.ListN.{length, take}
 use lib.Seq.{take-at}
 use borrow.Author.Tests.{le-leb}
-use Rattle.frame.specs.Frame.{Frame, Bytes, addressOf, controlOf, dataOf}
+use Rattle.frame.specs.Frame.{Frame, addressOf, controlOf, dataOf, frameFor}
+use Rattle.laws.specs.Memory.{Bytes, outcome, over}
 use Rattle.frame.specs.FrameLaws.{frame-for, frame-for-length, address-back, control-back, data-back}
-use Rattle.frame.specs.Memory.{outcome, over}
 use Rattle.frame.specs.RecognitionLaws.{bytes-append, frame-one}
-use Rattle.frame.specs.Writing.{frameFor}
-use Rattle.item.specs.Checks.{firstFailing}
+use Rattle.laws.specs.Checks.{firstFailing}
 use Rattle.item.specs.ContentLaws.{content-allowed}
-use Rattle.item.specs.Decimal.{Decimal}
-use Rattle.item.specs.DecimalLaws.{decimal-bytes}
+use Rattle.item_decimal.specs.Decimal.{Decimal}
+use Rattle.item_decimal.specs.DecimalLaws.{decimal-bytes}
 use Rattle.energy.specs.Energies.{Rows}
 use Rattle.meter.specs.Answer.{answered, answeredWith}
 use Rattle.meter.specs.Ranges.{InRanges, within-ranges}
-use Rattle.meter.specs.Request.{identifierOf}
+use Rattle.item_identifier.specs.Identifier.{identifierBytes}
+use Rattle.item_identifier.specs.IdentifierLaws.{identifier-are-bytes}
 use Rattle.meter.specs.declared.Meter.{Meter}
 use Rattle.meter.specs.declared.FrameAnswer.the-variants as frames
 use Rattle.reader.specs.Allowed.{requestValue, isAllowed}
 use Rattle.reader.specs.AllowedLaws.{admitted-write}
 use Rattle.reader.specs.BuildingLaws.{sent-six}
-use Rattle.reader.specs.Building.{controlFor, identifierBytes, sentTo, sentData, requestFrame}
-use Rattle.reader.specs.Judging.{isNormal, isError, answersFrom, isAnswer, firstChecks, replyValue, verdict, judgementOf, written, judged}
-use Rattle.reader.specs.declared.Action.{Action}
-use Rattle.reader.specs.declared.Action.the-variants.{ReadData, ReadAddress, WriteData}
+use Rattle.reader.specs.Building.{sentTo, sentData, requestFrame}
+use Rattle.reader_judgement.specs.Judging.{controlFor, isNormal, isError, answersFrom, replyValue, verdict}
+use Rattle.reader.specs.Judging.{isAnswer, firstChecks, judgementOf, written, judged}
+use Rattle.reader_judgement.specs.declared.Action.{Action}
+use Rattle.reader_judgement.specs.declared.Action.the-variants.{ReadData, ReadAddress, WriteData}
 use Rattle.reader.specs.declared.Request.{Request}
-use Rattle.reader.specs.declared.Judgement.{Judgement}
+use Rattle.reader_judgement.specs.declared.Judgement.{Judgement}
 use Rattle.exchange.specs.Exchange.{Memories, isEnough, concluded, carried, exchanged}
 use Rattle.exchange.specs.ExchangeLaws.{sent-frame}
 use Rattle.exchange.specs.EndToEnd.{Typed, EnoughMemory, comesTo}
 use Rattle.exchange.specs.declared.ExchangeAnswer.the-variants.{Silent, Judged}
-
--- The identifier that stands in four bytes at the front of the data.
-pub identifier-back : (identifier : ℕ) (more : List ℕ) → identifier < 4294967296 → identifierOf (identifierBytes identifier ++ more) ≡ identifier
-unfolding identifierOf identifierBytes
-identifier-back identifier more below =
-    let first : identifier % 256 + 256 * (identifier / 256) ≡ identifier = omega arith in
-    let second : identifier / 256 % 256 + 256 * (identifier / 65536) ≡ identifier / 256 = omega (arith, div-div-eq-div-mul identifier 256 256) in
-    let third : identifier / 65536 % 256 + 256 * (identifier / 16777216) ≡ identifier / 65536 = omega (arith, div-div-eq-div-mul identifier 65536 256) in
-    let highest : identifier / 16777216 < 256 = omega arith in
-    let fourth : identifier / 16777216 % 256 ≡ identifier / 16777216 = omega arith in
-    omega arith
-
--- An identifier's four bytes are bytes.
-pub identifier-are-bytes : (identifier : ℕ) → Bytes (identifierBytes identifier)
-unfolding identifierBytes
-identifier-are-bytes identifier = omega arith
 
 -- A written frame with nothing behind it, taken apart.
 module _ (address : List ℕ) (control : ℕ) (meant : List ℕ) (six : length address ≡ 6) where

@@ -9,36 +9,40 @@ use lib.ListN.{length, length-append}
 use lib.Seq.{length-take-le, take-at, drop-at}
 use borrow.Author.Tests.{leb-true, le-leb}
 use Rattle.frame.specs.Frame.{addressOf, controlOf, dataOf}
-use Rattle.frame.specs.MemoryLaws.{pick-cases}
-use Rattle.item.specs.Checks.{firstFailing}
+use Rattle.laws.specs.MemoryLaws.{pick-cases}
+use Rattle.laws.specs.Checks.{firstFailing}
 use Rattle.item.specs.Content.{within}
 use Rattle.item.specs.ContentLaws.{content-allowed}
-use Rattle.item.specs.Reply.{controlCode, replyTo, notAuthorised}
-use Rattle.item.specs.SameLaws.{same-equal, equal-same}
+use Rattle.item_command.specs.Reply.{controlCode, replyTo, notAuthorised}
+use Rattle.item_same.specs.SameLaws.{same-equal, equal-same}
 use Rattle.item.specs.Table.{itemOf}
 use Rattle.item.specs.declared.table.Item.{Item}
 use Rattle.item.specs.declared.table.Lookup.the-variants.{Listed}
 use Rattle.energy.specs.Energies.{Rows}
 use Rattle.meter.specs.Meter.{Sized}
 use Rattle.meter.specs.Ranges.{InRanges}
-use Rattle.meter.specs.Request.{commandOf, addressed, identifierOf, itemAsked, levelOf, passwordOf, operatorOf, writtenValue}
-use Rattle.meter.specs.Answer.{Treatment, replies, authorised, checksOf, carriedOut, treated, delivered, answered}
+use Rattle.meter_decision.specs.Request.{itemAsked, levelOf, passwordOf, operatorOf, writtenValue}
+use Rattle.item_identifier.specs.Identifier.{identifierOf, identifierBytes}
+use Rattle.item_command.specs.Command.{commandOf, addressed}
+use Rattle.meter.specs.Answer.{Treatment, replies, carriedOut, treated, delivered, answered}
+use Rattle.meter_decision.specs.Decision.{authorised, checksOf}
 use Rattle.meter.specs.AnswerLaws.{answered-treated}
 use Rattle.meter.specs.Writes.{EveryCheckHolds, Accepted, accepted-write}
 use Rattle.meter.specs.declared.Meter.{Meter}
-use Rattle.meter.specs.declared.request.Command.the-variants as command
+use Rattle.item_command.specs.declared.Command.the-variants as command
 use Rattle.reader.specs.Allowed.{requestValue, isAllowed}
 use Rattle.reader.specs.AllowedLaws.{WriteAllowed, admitted-write}
 use Rattle.reader.specs.BuildingLaws.{write-length}
-use Rattle.reader.specs.Building.{controlFor, identifierBytes, sentTo, sentData, requestFrame}
-use Rattle.reader.specs.Judging.{isNormal, isError, answersFrom, errorChecks, normalChecks, replyValue, verdict}
-use Rattle.reader.specs.declared.Action.{Action}
-use Rattle.reader.specs.declared.Action.the-variants.{WriteData}
-use Rattle.reader.specs.declared.Judgement.the-variants.{Value, Error}
+use Rattle.reader.specs.Building.{sentTo, sentData, requestFrame}
+use Rattle.reader_judgement.specs.Judging.{controlFor, isNormal, isError, answersFrom, errorChecks, normalChecks, replyValue, verdict}
+use Rattle.reader_judgement.specs.declared.Action.{Action}
+use Rattle.reader_judgement.specs.declared.Action.the-variants.{WriteData}
+use Rattle.reader_judgement.specs.declared.Judgement.the-variants.{Value, Error}
 use Rattle.reader.specs.declared.Request.{Request}
 use Rattle.exchange.specs.Exchange.{Memories}
 use Rattle.exchange.specs.EndToEnd.{Typed, MeantFor, replyFrame, EnoughMemory, comesTo, Authorised, WriteSets, WriteFails}
-use Rattle.exchange.specs.Steps.{identifier-back, request-frame, request-address, request-control, request-data, replied-exchange}
+use Rattle.exchange.specs.Steps.{request-frame, request-address, request-control, request-data, replied-exchange}
+use Rattle.item_identifier.specs.IdentifierLaws.{identifier-back}
 use Rattle.exchange.specs.declared.ExchangeAnswer.the-variants.{Judged}
 
 -- What a meter reads off the data of a write is what the request says.
@@ -75,13 +79,13 @@ reads-off request typed few =
 -- A write of a writable item, of a length that a write has, is answered by error byte 04 where key or authority is missing.
 unauthorised-write : (meant : List ℕ) (item : Item) (m : Meter) (forward reverse : Rows) → 12 ≤ length meant → length meant ≤ 50
     → itemOf (identifierOf meant) ≡ Listed item → item .writable ≡ true
-    → (m .key ≡ true → authorised (levelOf meant) (passwordOf meant) m ≡ true → ⊥)
+    → (m .key ≡ true → authorised (levelOf meant) (passwordOf meant) (m .passwords) ≡ true → ⊥)
     → carriedOut command.WriteData meant m forward reverse ≡ replies 0xD4 (notAuthorised ∷ []) m
 unfolding carriedOut firstFailing checksOf within itemAsked replyTo controlCode
 unauthorised-write meant item m forward reverse least most listed writable missing =
     rw (le-leb 12 (length meant) least, le-leb (length meant) 50 most, listed, writable)
     (pick-cases P (m .key)
-    (λ k. pick-cases P (authorised (levelOf meant) (passwordOf meant) m) (λ a. absurd (missing k a)) (λ _. refl))
+    (λ k. pick-cases P (authorised (levelOf meant) (passwordOf meant) (m .passwords)) (λ a. absurd (missing k a)) (λ _. refl))
     (λ _. refl))
   where
     P : Treatment → Type 0

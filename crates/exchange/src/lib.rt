@@ -12,12 +12,12 @@ use meter::Answered;
 use meter::FrameAnswer;
 use meter::Meter;
 use reader::Built;
-use reader::Judgement;
 use reader::Request;
+use reader_judgement::Judgement;
 ghost use mathlib.Core.Path.{_≡_};
 ghost use Prim.Native.Nat.{_≤_};
 ghost use lib.ListN.{length, drop};
-ghost use Rattle.frame.specs.Memory.{outcome, over};
+ghost use Rattle.laws.specs.Memory.{outcome, over};
 ghost use Rattle.exchange.specs.Exchange.{Woken, WithinReply, refusedWith, concluded, isEnough, outcomeOf, memories, exchanged};
 
 // The answer to an exchange.

@@ -3,9 +3,8 @@ use Prim.Native.Nat.{ℕ}
 use mathlib.Core.Path.{_≡_, refl}
 use mathlib.Core.List.{List, [], _∷_, _++_}
 use lib.ListN.{take, replicate}
-use Rattle.frame.specs.Frame.{total, checksumOf, masked, unmasked, summed, frameOf, addressOf, lengthOf, fieldOf, dataOf}
+use Rattle.frame.specs.Frame.{total, checksumOf, masked, unmasked, summed, frameOf, addressOf, lengthOf, fieldOf, dataOf, frameFor}
 use Rattle.frame.specs.Recognition.{recognised, recognisedBody, recognisedEnd}
-use Rattle.frame.specs.Writing.{frameFor}
 use Rattle.frame.specs.declared.Recognised.the-variants.{Whole, Open, Neither}
 
 -- Address 000000000001, low byte first.

@@ -1,5 +1,5 @@
 -- Document 01, "A frame": what bytes are a frame, its parts, the checksum and the masking of data bytes. Lists hold bytes.
-use Prim.Native.Nat.{ℕ, _+_, _-_, _%_, _≤_, _<_}
+use Prim.Native.Nat.{ℕ, _+_, _-_, _%_, _≤_}
 use mathlib.Core.Path.{_≡_}
 use mathlib.Core.List.{List, [], _∷_, _++_, map}
 use lib.ListN.{length, getD, take, drop}
@@ -29,6 +29,10 @@ unfoldable pub frameOf : List ℕ → ℕ → List ℕ → List ℕ
 frameOf address control field =
     summed address control field ++ (checksumOf (summed address control field) ∷ 0x16 ∷ [])
 
+-- The frame of an address, a control code and data as they are meant.
+unfoldable pub frameFor : List ℕ → ℕ → List ℕ → List ℕ
+frameFor address control meant = frameOf address control (map masked meant)
+
 -- Bytes that are a frame: of a six-byte address field and a data field of at most 200 bytes.
 pub record Frame (bytes : List ℕ) : Type 0 where
   pub address : List ℕ
@@ -54,8 +58,3 @@ fieldOf bytes = take (lengthOf bytes) (drop 10 bytes)
 
 unfoldable pub dataOf : List ℕ → List ℕ
 dataOf bytes = map unmasked (fieldOf bytes)
-
--- Every number of the list is a byte.
-abbrev pub Bytes : List ℕ → Type 0
-Bytes [] = Unit
-Bytes (b ∷ bs) = (b < 256) × Bytes bs

@@ -3,10 +3,10 @@ use Prim.Native.Nat.{ℕ, _+_, _≤_, _<_}
 use mathlib.Core.Path.{_≡_, refl, ap, _∙_}
 use mathlib.Core.List.{List, [], _∷_, _++_, map}
 use lib.ListN.{length, length-append, length-map}
-use Rattle.frame.specs.Frame.{Frame, Bytes, masked, unmasked, frameOf, addressOf, controlOf, lengthOf, dataOf}
+use Rattle.frame.specs.Frame.{Frame, masked, unmasked, frameOf, addressOf, controlOf, lengthOf, dataOf, frameFor}
+use Rattle.laws.specs.Memory.{Bytes}
 use native.Mathlib.Omega.{arith}
 use Rattle.frame.specs.Laws.{summed-length, address-part, control-part, length-part, field-part}
-use Rattle.frame.specs.Writing.{frameFor}
 
 -- What is masked and unmasked, or the other way round, is as it was.
 pub unmasked-masked : (b : ℕ) → b < 256 → unmasked (masked b) ≡ b

@@ -1,17 +1,16 @@
--- Laws about the definitions of this crate that its proofs, and those of other crates, cite.
-use Prim.Native.Nat.{ℕ, _+_, _%_, _≤_, _<_}
+-- Laws of the checksum and of a frame taken apart that this crate's proofs, and those of other crates, cite.
+use Prim.Native.Nat.{ℕ, _+_, _%_, _<_}
 use mathlib.Core.Path.{_≡_, refl, ap, sym, _∙_}
-use mathlib.Core.List.{List, [], _∷_, _++_, map, append-assoc}
+use mathlib.Core.List.{List, [], _∷_, _++_, append-assoc}
 use mathlib.Core.Bool.{Bool, true, false}
 use native.Mathlib.Numerals.{add-one}
 use native.Mathlib.Omega.{arith}
-use lib.ListN.{length, take, drop, getD, length-append, length-map}
+use lib.ListN.{length, take, drop, getD, length-append}
 use lib.Seq.{take-suc, take-at, drop-at, take-append-seam, getD-drop, drop-drop}
 use lib.Dec.{eqb}
 use borrow.Author.Tests.{lt-leb, ne-eqb}
-use Rattle.frame.specs.Frame.{total, checksumOf, masked, summed, frameOf, addressOf, controlOf, lengthOf, fieldOf}
-use Rattle.frame.specs.MemoryLaws.{over-over}
-use Rattle.frame.specs.Memory.{over, pick}
+use Rattle.frame.specs.Frame.{total, checksumOf, summed, frameOf, addressOf, controlOf, lengthOf, fieldOf}
+use Rattle.laws.specs.Memory.{pick}
 use Rattle.frame.specs.Recognition.{recognisedEnd}
 use Rattle.frame.specs.declared.Recognised.the-variants.{Neither}
 
@@ -39,24 +38,10 @@ last-wrong bytes n there wrong =
     same true = refl
     same false = refl
 
--- The bytes before the data field, and the field behind them, are what the checksum is taken over.
-pub summed-parts : (address : List ℕ) (control : ℕ) (meant : List ℕ)
-    → (0x68 ∷ (address ++ (0x68 ∷ control ∷ length meant ∷ []))) ++ map masked meant ≡ summed address control (map masked meant)
-unfolding summed
-summed-parts address control meant = rw (append-assoc, length-map)
-
--- They are ten more than the data field.
+-- What the checksum is taken over is ten bytes longer than the data field.
 pub summed-length : (address : List ℕ) (control : ℕ) (field : List ℕ) → length address ≡ 6 → length (summed address control field) ≡ 10 + length field
 unfolding summed
 summed-length address control field six = rw (length-append, six) (omega arith)
-
--- What stands at the front is sealed: its checksum and 16 go behind it.
-pub sealed : (n : ℕ) (s m : List ℕ) → length s ≡ n → let o = over s m in
-    over (take n o ++ (checksumOf (take n o) ∷ 0x16 ∷ [])) o ≡ over (s ++ (checksumOf s ∷ 0x16 ∷ [])) m
-sealed n s m e =
-    let front : take n (over s m) ≡ s = take-at s (drop (length s) m) n e in
-    let more : length s ≤ length (s ++ (checksumOf s ∷ 0x16 ∷ [])) = rw length-append (omega arith) in
-    ap (λ (l : List ℕ). over (l ++ (checksumOf l ∷ 0x16 ∷ [])) (over s m)) front ∙ over-over (s ++ (checksumOf s ∷ 0x16 ∷ [])) s m more
 
 -- A frame, whatever stands behind it, taken apart.
 module _ (address : List ℕ) (control : ℕ) (field more : List ℕ) (six : length address ≡ 6) where

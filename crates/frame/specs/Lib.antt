@@ -1,14 +1,9 @@
-pub mod Memory
 pub mod Refusals
 pub mod Frame
 pub mod Recognition
-pub mod Writing
-pub mod Parts
 pub mod EndToEnd
-pub mod MemoryLaws
 pub mod Laws
 pub mod FrameLaws
-pub mod PartsLaws
 pub mod RecognitionSteps
 pub mod RecognitionLaws
 pub mod EndToEndLaws

@@ -10,13 +10,12 @@ use lib.ListN.{length, getD, take, drop, replicate, length-append, length-drop, 
 use lib.Seq.{take-all, getD-append-add, getD-drop}
 use lib.Dec.{leb}
 use borrow.Author.Tests.{leb-true, leb-false, eqb-true, eq-eqb, ne-eqb}
-use Rattle.frame.specs.Frame.{Frame, frameOf, summed, checksumOf, lengthOf, masked, Bytes}
+use Rattle.frame.specs.Frame.{Frame, frameOf, summed, checksumOf, lengthOf, masked, frameFor}
+use Rattle.laws.specs.Memory.{Bytes}
 use Rattle.frame.specs.Laws.{summed-length, length-part}
 use Rattle.frame.specs.FrameLaws.{frame-length, frame-for}
-use Rattle.frame.specs.Writing.{frameFor}
 use Rattle.frame.specs.Recognition.{stage, recognised, recognisedBody, recognisedEnd, exactlyOne, isAll}
-use Rattle.frame.specs.RecognitionSteps.{stage-cases, stage-wrong, stays, Headed, headed-longer, headed-closes, front-closes, closed-whole}
-use Rattle.frame.specs.RecognitionSteps.{same-length, summed-says, summed-headed, take-next}
+use Rattle.frame.specs.RecognitionSteps.{stage-cases, stage-wrong, stays, Headed, headed-longer, headed-closes, front-closes, closed-whole, same-length, summed-says, summed-headed, take-next}
 use Rattle.frame.specs.declared.Recognised.{Recognised}
 use Rattle.frame.specs.declared.Recognised.the-variants.{Whole, Open, Neither}
 

@@ -9,7 +9,7 @@ use lib.ListN.{length, getD, take, drop, length-append, length-take, length-drop
 use lib.Seq.{drop-cons, take-suc, drop-drop, length-take-le, take-append-le, take-at, getD-at, getD-append-add}
 use lib.Dec.{leb, eqb}
 use borrow.Author.Tests.{leb-true, leb-false, le-leb, lt-leb, eq-eqb}
-use Rattle.frame.specs.Memory.{pick}
+use Rattle.laws.specs.Memory.{pick}
 use Rattle.frame.specs.Frame.{Frame, frameOf, summed, checksumOf, addressOf, controlOf, lengthOf}
 use Rattle.frame.specs.Laws.{summed-length}
 use Rattle.frame.specs.Recognition.{stage, recognised, recognisedBody, recognisedEnd}

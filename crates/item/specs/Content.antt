@@ -4,9 +4,9 @@ use mathlib.Core.List.{List}
 use mathlib.Core.Bool.{Bool, true, false, _&&_, _||_}
 use lib.ListN.{getD}
 use lib.Dec.{leb, eqb}
-use Rattle.item.specs.Decimal.{firstBad, digits}
-use Rattle.item.specs.declared.decimal.Scan.{Scan}
-use Rattle.item.specs.declared.decimal.Scan.the-variants.{AllDecimal, BadAt}
+use Rattle.item_decimal.specs.Decimal.{firstBad, digits}
+use Rattle.item_decimal.specs.declared.Scan.{Scan}
+use Rattle.item_decimal.specs.declared.Scan.the-variants.{AllDecimal, BadAt}
 use Rattle.item.specs.declared.table.Kind.{Kind}
 use Rattle.item.specs.declared.table.Kind.the-variants.{Energy, Date, Time, DemandPeriod, Slip, Address, MeterNumber, FirstSettlementDay, SecondSettlementDay, ThirdSettlementDay}
 use Rattle.item.specs.declared.content.Content.{Content}

@@ -7,11 +7,11 @@ use mathlib.Core.Logic.{_↔_, Iff·rfl}
 use native.Mathlib.Omega.{arith}
 use lib.Dec.{leb}
 use borrow.Author.Tests.{leb-true, le-leb, eqb-true, eq-eqb}
-use Rattle.item.specs.Decimal.{Decimal, firstBad}
-use Rattle.item.specs.DecimalLaws.{scan-decimal, decimal-scan}
+use Rattle.item_decimal.specs.Decimal.{Decimal, firstBad}
+use Rattle.item_decimal.specs.DecimalLaws.{scan-decimal, decimal-scan}
 use Rattle.item.specs.Content.{digitsAt, within, dateInRange, timeInRange, minutesInRange, notSet, settlementDayInRange, inRange, afterScan, contentOf, isAllowed}
-use Rattle.item.specs.declared.decimal.Scan.{Scan}
-use Rattle.item.specs.declared.decimal.Scan.the-variants.{AllDecimal, BadAt}
+use Rattle.item_decimal.specs.declared.Scan.{Scan}
+use Rattle.item_decimal.specs.declared.Scan.the-variants.{AllDecimal, BadAt}
 use Rattle.item.specs.declared.table.Kind.{Kind}
 use Rattle.item.specs.declared.table.Kind.the-variants.{Energy, Date, Time, DemandPeriod, Slip, Address, MeterNumber, FirstSettlementDay, SecondSettlementDay, ThirdSettlementDay}
 use Rattle.item.specs.declared.content.Content.the-variants.{Allowed}

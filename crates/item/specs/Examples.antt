@@ -1,26 +1,12 @@
 -- Worked cases that the definitions compute.
 use mathlib.Core.Path.{_≡_, refl}
 use mathlib.Core.List.{[], _∷_}
-use mathlib.Core.Bool.{true, false}
-use lib.ListN.{replicate}
-use Rattle.item.specs.Decimal.{isDecimal, firstBadFrom, firstBad, allDecimal, digits, lowDigits, packed, unpacked}
-use Rattle.item.specs.Same.{same}
+use Rattle.item_decimal.specs.Decimal.{isDecimal, firstBadFrom, firstBad, digits}
 use Rattle.item.specs.Table.{itemOf, energyItem, readings, readOnly, writableItem, otherRows, found}
 use Rattle.item.specs.Content.{digitsAt, within, dateInRange, minutesInRange, notSet, settlementDayInRange, inRange, contentOf}
-use Rattle.item.specs.Address.{isGood, lowBytes, isShortCount, hasShortForm, shortMatches}
-use Rattle.item.specs.Reply.{controlCode, replyTo}
 use Rattle.item.specs.declared.table.Kind.the-variants.{Energy, Date, DemandPeriod, Address, FirstSettlementDay}
 use Rattle.item.specs.declared.table.Lookup.the-variants.{Listed, NotListed}
 use Rattle.item.specs.declared.content.Content.the-variants.{Allowed, NotDecimal, OutOfRange}
-
--- Case B's reading 123456.78 as its four bytes, and back.
-reading-packed : packed 4 12345678 ≡ 0x78 ∷ 0x56 ∷ 0x34 ∷ 0x12 ∷ []
-unfolding packed lowDigits
-reading-packed = refl
-
-reading-unpacked : unpacked (0x78 ∷ 0x56 ∷ 0x34 ∷ 0x12 ∷ []) ≡ 12345678
-unfolding unpacked digits
-reading-unpacked = refl
 
 -- 00 01 00 00 is the current forward total; 00 02 FF 0C all columns of the last row; 00 01 04 FF all rows of rate 4; both FF at once nothing.
 forward-total : itemOf 0x00010000 ≡ Listed (readOnly (Energy 0 0 1 0 1) 4)
@@ -78,29 +64,3 @@ not-set = refl
 half-set : contentOf FirstSettlementDay (0x00 ∷ 0x99 ∷ []) ≡ OutOfRange
 unfolding contentOf firstBad firstBadFrom isDecimal inRange settlementDayInRange notSet digitsAt digits within
 half-set = refl
-
--- The broadcast address is not good. AA is no digit, and no wildcard but at the high end.
-broadcast-not-good : isGood (replicate 6 0x99) ≡ false
-unfolding isGood allDecimal firstBad firstBadFrom isDecimal same
-broadcast-not-good = refl
-
-short-matches : shortMatches (0x01 ∷ 0x02 ∷ replicate 4 0xAA) (0x01 ∷ 0x02 ∷ 0x03 ∷ 0x00 ∷ 0x00 ∷ 0x00 ∷ []) ≡ true
-unfolding shortMatches hasShortForm isShortCount lowBytes same
-short-matches = refl
-
-wildcard-no-zero : shortMatches (0x01 ∷ replicate 5 0x00) (0x01 ∷ 0x02 ∷ 0x03 ∷ 0x00 ∷ 0x00 ∷ 0x00 ∷ []) ≡ false
-unfolding shortMatches hasShortForm isShortCount lowBytes same
-wildcard-no-zero = refl
-
-all-wildcards : shortMatches (replicate 6 0xAA) (0x01 ∷ replicate 5 0x00) ≡ false
-unfolding shortMatches hasShortForm isShortCount lowBytes same
-all-wildcards = refl
-
--- 91 and D1 answer 11.
-normal-read : replyTo 0x11 false ≡ 0x91
-unfolding replyTo controlCode
-normal-read = refl
-
-abnormal-read : replyTo 0x11 true ≡ 0xD1
-unfolding replyTo controlCode
-abnormal-read = refl

@@ -6,8 +6,8 @@ use mathlib.Core.Bool.{Bool, true, false}
 use native.Mathlib.Omega.{arith}
 use lib.Dec.{leb, eqb}
 use borrow.Author.Tests.{leb-true, eqb-true}
-use Rattle.frame.specs.Memory.{pick}
-use Rattle.frame.specs.MemoryLaws.{pick-cases}
+use Rattle.laws.specs.Memory.{pick}
+use Rattle.laws.specs.MemoryLaws.{pick-cases}
 use Rattle.item.specs.Table.{itemOf, energyItem, readings, readOnly, Row, otherRows, found}
 use Rattle.item.specs.declared.table.Kind.{Kind}
 use Rattle.item.specs.declared.table.Kind.the-variants.{Energy, Date, Time, DemandPeriod, Slip, Address, MeterNumber, FirstSettlementDay, SecondSettlementDay, ThirdSettlementDay}

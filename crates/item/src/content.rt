@@ -1,8 +1,8 @@
 // The content of a written value: document 01, "Written content". A value stands low byte first.
-use crate::decimal::Scan;
-use crate::decimal::digits_of;
-use crate::decimal::first_bad;
 use crate::table::Kind;
+use item_decimal::Scan;
+use item_decimal::digits_of;
+use item_decimal::first_bad;
 ghost use mathlib.Core.Path.{_≡_};
 ghost use Rattle.item.specs.Content.{digitsAt, within, dateInRange, timeInRange, minutesInRange, settlementDayInRange, inRange, contentOf};
 

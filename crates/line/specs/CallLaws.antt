@@ -9,15 +9,17 @@ use mathlib.Core.List.{List·Memᴰ, Memᴰ·append-right, List·Memᴰ·append-
 use lib.ListN.{length, take, drop, length-append, length-drop, length-replicate}
 use lib.Seq.{take-append-seam}
 use lib.Dec.{leb}
-use borrow.Author.Tests.{leb-true, leb-false, le-leb}
-use Rattle.frame.specs.Memory.{Outcome, outcome, pick}
+use borrow.Author.Tests.{leb-true, leb-false}
+use Rattle.laws.specs.Memory.{Outcome, outcome, pick}
+use Rattle.frame.specs.Recognition.{recognised}
 use Rattle.frame.specs.RecognitionLaws.{open-most}
-use Rattle.line.specs.Line.{Symbol, byte, Certain}
-use Rattle.line.specs.Places.{Found, Rising, joined}
-use Rattle.line.specs.PlaceLaws.{joined-append, once}
-use Rattle.line.specs.Scan.{scan}
-use Rattle.line.specs.ScanLaws.{scan-rising, scan-kept-open, place-joined, place-count, place-kept, one-more}
-use Rattle.line.specs.ScanCertain.{found-certain, certain-found}
+use Rattle.line_verdict.specs.VerdictLaws.{within-as}
+use Rattle.line_terms.specs.Line.{Symbol, byte, Certain}
+use Rattle.line_terms.specs.Places.{Found, Rising, joined}
+use Rattle.line_terms.specs.PlaceLaws.{joined-append, once}
+use Rattle.line_terms.specs.Scan.{scan}
+use Rattle.line_terms.specs.ScanLaws.{scan-rising, scan-kept-open, place-joined, place-count, place-kept, one-more}
+use Rattle.line_terms.specs.ScanCertain.{found-certain, certain-found}
 use Rattle.line.specs.Receiver.{fresh, keptBytes, withinRange, refused, readingWith, keeping, delivered, called}
 use Rattle.line.specs.declared.Receiver.{Receiver}
 use Rattle.line.specs.declared.Received.{Received}
@@ -99,8 +101,8 @@ module _ {x : List Symbol} {r : Receiver} (s : Symbol) (h : HasReceived x r) whe
 
 -- It is within its range, so a call looks at the memory.
 within : {x : List Symbol} {r : Receiver} → HasReceived x r → withinRange r ≡ true
-unfolding withinRange
-within {x} {r} h = rw (le-leb (r .count) 211 (received-most h), h .bytes, scan-kept-open 0 0 x)
+unfolding keptBytes
+within {x} {r} h = within-as (r .kept) (r .count) (received-most h) (ap recognised (h .bytes) ∙ scan-kept-open 0 0 x)
 
 called-within : {x : List Symbol} {r : Receiver} (s : Symbol) (m : List ℕ) → HasReceived x r →
     called s r m ≡ pick (leb 212 (length m)) (delivered (readingWith r s) r m) (refused 1 r m)

@@ -5,14 +5,13 @@ use mathlib.Core.Path.{_≡_, sym, subst}
 use mathlib.Core.Logic.{_↔_}
 use mathlib.Core.List.{List, [], _∷_, _++_, List·Memᴰ}
 use lib.ListN.{length, take}
-use Rattle.frame.specs.Memory.{outcome}
-use Rattle.line.specs.Line.{Symbol, Certain}
-use Rattle.line.specs.Places.{Found, Rising, joined}
-use Rattle.line.specs.Scan.{scan}
-use Rattle.line.specs.ScanLaws.{scan-rising}
-use Rattle.line.specs.ScanCertain.{found-certain, certain-found}
-use Rattle.line.specs.CallLaws.{newFrames, new-rising, new-certain, certain-new, HasReceived, received-most, fresh-received}
-use Rattle.line.specs.CallLaws.{Answers, ignores, delivers, answers, After, after-none, after-then, after-one}
+use Rattle.laws.specs.Memory.{outcome}
+use Rattle.line_terms.specs.Line.{Symbol, Certain}
+use Rattle.line_terms.specs.Places.{Found, Rising, joined}
+use Rattle.line_terms.specs.Scan.{scan}
+use Rattle.line_terms.specs.ScanLaws.{scan-rising}
+use Rattle.line_terms.specs.ScanCertain.{found-certain, certain-found}
+use Rattle.line.specs.CallLaws.{newFrames, new-rising, new-certain, certain-new, HasReceived, received-most, fresh-received, Answers, ignores, delivers, answers, After, after-none, after-then, after-one}
 use Rattle.line.specs.Receiver.{fresh, called}
 use Rattle.line.specs.declared.Receiver.{Receiver}
 use Rattle.line.specs.declared.Received.{Received}

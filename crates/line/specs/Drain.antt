@@ -4,10 +4,10 @@ use mathlib.Core.Path.{_≡_}
 use mathlib.Core.List.{List, [], _∷_, _++_, map}
 use mathlib.Core.Bool.{Bool, true, false}
 use lib.ListN.{length, drop}
-use Rattle.frame.specs.Memory.{over}
-use Rattle.line.specs.Line.{Symbol, byte, silence}
-use Rattle.line.specs.Places.{Found, joined}
-use Rattle.line.specs.Scan.{Reading, scan}
+use Rattle.laws.specs.Memory.{over}
+use Rattle.line_terms.specs.Line.{Symbol, byte, silence}
+use Rattle.line_terms.specs.Places.{Found, joined}
+use Rattle.line_terms.specs.Scan.{Reading, scan}
 use Rattle.line.specs.declared.drain.Drained.{Drained}
 use Rattle.line.specs.declared.drain.Settled.{Settled}
 

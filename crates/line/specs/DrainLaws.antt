@@ -8,16 +8,16 @@ use native.Mathlib.Nat.{le-refl, sub-zero, zero-sub, suc-sub-suc, not-suc-le-zer
 use native.Mathlib.Numerals.{add-one, sub-one}
 use lib.ListN.{length, take, drop, length-append, length-drop, drop-of-length-le}
 use lib.Seq.{take-nil, take-all, drop-drop, length-take-le}
-use Rattle.frame.specs.Memory.{over}
-use Rattle.frame.specs.MemoryLaws.{over-length, lent-over}
+use Rattle.laws.specs.Memory.{over}
+use Rattle.laws.specs.MemoryLaws.{over-length, lent-over}
 use Rattle.frame.specs.Recognition.{recognised}
 use Rattle.frame.specs.RecognitionLaws.{empty-open, whole-within, whole-frame, frame-least}
 use Rattle.frame.specs.declared.Recognised.{Recognised}
 use Rattle.frame.specs.declared.Recognised.the-variants.{Whole, Open, Neither}
-use Rattle.line.specs.Line.{byte}
-use Rattle.line.specs.Places.{Found, joined}
-use Rattle.line.specs.PlaceLaws.{joined-append}
-use Rattle.line.specs.Scan.{Reading, scan, begins, bytesBefore, broken, settled, readingBy, before}
+use Rattle.line_terms.specs.Line.{byte}
+use Rattle.line_terms.specs.Places.{Found, joined}
+use Rattle.line_terms.specs.PlaceLaws.{joined-append}
+use Rattle.line_terms.specs.Scan.{Reading, scan, begins, bytesBefore, broken, settled, readingBy, before}
 use Rattle.line.specs.Drain.{symbols, readingFrom, behind, Drains, Settles}
 use Rattle.line.specs.declared.drain.Drained.{Drained}
 

@@ -1,17 +1,15 @@
 -- What a call of the receiver answers, and what it leaves: document 01, "Reading of the line" and refusals 16 and 1.
 use Prim.Native.Nat.{ℕ}
 use mathlib.Core.List.{List, [], _∷_, _++_, map}
-use mathlib.Core.Bool.{Bool, true, false}
+use mathlib.Core.Bool.{Bool}
 use lib.ListN.{length, take, replicate}
 use lib.Dec.{leb}
-use Rattle.frame.specs.Memory.{Outcome, outcome, over, pick}
+use Rattle.laws.specs.Memory.{Outcome, outcome, over, pick}
 use Rattle.frame.specs.Refusals.{shortMemory, outOfRange}
-use Rattle.frame.specs.Recognition.{recognised}
-use Rattle.frame.specs.declared.Recognised.{Recognised}
-use Rattle.frame.specs.declared.Recognised.the-variants.{Whole, Open, Neither}
-use Rattle.line.specs.Line.{Symbol, byte}
-use Rattle.line.specs.Places.{joined}
-use Rattle.line.specs.Scan.{Reading, scan}
+use Rattle.line_verdict.specs.Verdict as verdict
+use Rattle.line_terms.specs.Line.{Symbol, byte}
+use Rattle.line_terms.specs.Places.{joined}
+use Rattle.line_terms.specs.Scan.{Reading, scan}
 use Rattle.line.specs.declared.Receiver.{Receiver}
 use Rattle.line.specs.declared.Received.{Received}
 use Rattle.line.specs.declared.Answer.the-variants.{Refused, Delivered}
@@ -20,23 +18,17 @@ use Rattle.line.specs.declared.Answer.the-variants.{Refused, Delivered}
 unfoldable pub fresh : Receiver
 fresh = record { kept = replicate 211 0; count = 0 }
 
--- The receiver with this array and this count.
-abbrev pub receiverOf : List ℕ → ℕ → Receiver
-receiverOf kept count = record { kept = kept; count = count }
-
 -- The bytes that a receiver keeps: the first of its array, as many as it counts.
 unfoldable pub keptBytes : Receiver → List ℕ
 keptBytes r = take (r .count) (r .kept)
 
--- The bytes are a proper beginning of a frame.
-abbrev pub isOpen : Recognised → Bool
-isOpen (Whole n) = false
-isOpen Open = true
-isOpen Neither = false
-
 -- The kept bytes are within the array and are a proper beginning of a frame.
-unfoldable pub withinRange : Receiver → Bool
-withinRange r = pick (leb (r .count) 211) (isOpen (recognised (keptBytes r))) false
+abbrev pub withinRange : Receiver → Bool
+withinRange r = verdict.withinRange (r .kept) (r .count)
+
+-- The kept bytes with one byte more.
+abbrev pub keptWith : Receiver → ℕ → List ℕ
+keptWith r b = keptBytes r ++ (b ∷ [])
 
 -- A refusal: its number, and all as before.
 unfoldable pub refused : ℕ → Receiver → List ℕ → Outcome Received

@@ -2,38 +2,28 @@
 use Prim.Native.Nat.{ℕ, _+_, _≤_, _<_}
 use mathlib.Core.Path.{_≡_, refl, sym, ap, _∙_}
 use mathlib.Core.List.{List, [], _∷_, _++_, append-nil, map-append}
-use mathlib.Core.Bool.{Bool, true, false}
+use mathlib.Core.Bool.{true, false}
 use native.Mathlib.Omega.{arith}
 use lib.ListN.{length, take, drop, set, length-append, drop-of-length-le}
 use lib.Seq.{take-all, length-take-le}
-use lib.Dec.{leb}
-use borrow.Author.Tests.{le-leb, lt-leb, leb-true}
-use Rattle.frame.specs.Memory.{Outcome, outcome, over, pick}
-use Rattle.frame.specs.MemoryLaws.{over-next, over-itself}
+use borrow.Author.Tests.{le-leb, lt-leb}
+use Rattle.laws.specs.Memory.{Outcome, outcome, over}
+use Rattle.laws.specs.MemoryLaws.{over-next, over-itself}
 use Rattle.frame.specs.Recognition.{recognised}
 use Rattle.frame.specs.RecognitionLaws.{open-most}
 use Rattle.frame.specs.declared.Recognised.the-variants.{Whole, Open, Neither}
-use Rattle.line.specs.Line.{Symbol, byte, silence}
-use Rattle.line.specs.Places.{joined}
-use Rattle.line.specs.Scan.{Reading, before, settled}
-use Rattle.line.specs.Receiver.{keptBytes, isOpen, withinRange, refused, readingWith, keeping, delivered, called}
+use Rattle.line_verdict.specs.DecidedLaws.{within-most}
+use Rattle.line_terms.specs.Line.{Symbol, byte, silence}
+use Rattle.line_terms.specs.Places.{joined}
+use Rattle.line_terms.specs.Scan.{Reading, before, settled}
+use Rattle.line.specs.Receiver.{keptBytes, keptWith, withinRange, refused, readingWith, keeping, delivered, called}
 use Rattle.line.specs.Drain.{symbols, readingFrom, Drains, Settles}
 use Rattle.line.specs.DrainLaws.{reading-end, reading-whole, reading-neither, reading-open, reading-closed}
-use Rattle.line.specs.Verdict.{keptWith}
 use Rattle.line.specs.declared.Receiver.{Receiver}
 use Rattle.line.specs.declared.Received.{Received}
 use Rattle.line.specs.declared.drain.Drained.{Drained}
 use Rattle.line.specs.declared.drain.Settled.{Settled}
 use Rattle.line.specs.declared.Answer.the-variants.{Refused, Delivered}
-
--- A receiver within its range counts at most 211 bytes, and they are open.
-pub within-most : (r : Receiver) → withinRange r ≡ true → r .count ≤ 211
-unfolding withinRange
-within-most r e = go (leb (r .count) 211) refl e
-  where
-    go : (b : Bool) → leb (r .count) 211 ≡ b → pick b (isOpen (recognised (keptBytes r))) false ≡ true → r .count ≤ 211
-    go true l q = leb-true _ _ l
-    go false l q = let z : _≡_ {A = Bool} false true = q in let w : _≡_ {A = ℕ} 0 1 = cc in absurd (omega arith)
 
 -- What an answer with these parts is.
 abbrev pub answered : Receiver → ℕ → ℕ → List ℕ → Outcome Received
@@ -103,7 +93,7 @@ module _ (r : Receiver) (b : ℕ) (m : List ℕ) (good : withinRange r ≡ true)
       answered (record { kept = set (r .kept) (r .count) b; count = r .count + 1 }) 0 0 m ≡ called (byte b) r m
   unfolding keptBytes joined
   call-grows k e =
-      let most : r .count ≤ 211 = within-most r good in
+      let most : r .count ≤ 211 = within-most (r .kept) (r .count) good in
       let n : length (take (r .count) (r .kept)) ≡ r .count = length-take-le (r .count) (r .kept) (omega arith) in
       let l : length (keptWith r b) ≡ r .count + 1 = simp length-append (rw n) in
       let fits : length (keptWith r b) ≤ 211 = open-most (keptWith r b) e in
@@ -118,7 +108,7 @@ module _ (r : Receiver) (b : ℕ) (m : List ℕ) (good : withinRange r ≡ true)
       answered (record { kept = r .kept; count = 0 }) (r .count + 1) 1 m₁ ≡ called (byte b) r m
   unfolding keptBytes joined before
   call-whole k e m₁ f =
-      let most : r .count ≤ 211 = within-most r good in
+      let most : r .count ≤ 211 = within-most (r .kept) (r .count) good in
       let n : length (take (r .count) (r .kept)) ≡ r .count = length-take-le (r .count) (r .kept) (omega arith) in
       let y : List ℕ = keptWith r b in
       let l : length (keptWith r b) ≡ r .count + 1 = simp length-append (rw n) in

@@ -4,7 +4,7 @@ ghost use mathlib.Core.List.{_++_, _∷_, []};
 ghost use mathlib.Core.Bool.{true, false};
 ghost use Prim.Native.Nat.{_+_, _≤_};
 ghost use lib.ListN.{length, take};
-ghost use Rattle.frame.specs.Memory.{over};
+ghost use Rattle.laws.specs.Memory.{over};
 ghost use Rattle.frame.specs.Recognition.{recognised};
 ghost use Rattle.frame.specs.declared.Recognised.the-variants.{Neither};
 ghost use Rattle.line.specs.Drain.{Drains, Settles, readingFrom};

@@ -1,14 +1,13 @@
 // The receiver of the line: document 01, "Reading of the line". It takes one symbol a call, a byte or a silence, and delivers
 // the frames that became certain with it. Demand 3 of the letter is `demand-3` in specs/Demand3.antt.
 mod drain;
-mod verdict;
 
 use frame::refusal::OUT_OF_RANGE;
 use frame::refusal::SHORT_MEMORY;
-use verdict::Verdict;
+use line_verdict::Verdict;
 ghost use mathlib.Core.Path.{_≡_};
-ghost use Rattle.frame.specs.Memory.{outcome};
-ghost use Rattle.line.specs.Line.{byte, silence};
+ghost use Rattle.laws.specs.Memory.{outcome};
+ghost use Rattle.line_terms.specs.Line.{byte, silence};
 ghost use Rattle.line.specs.Receiver.{fresh, called};
 
 // A receiver: the first `count` bytes of `kept` are an unfinished frame. The array beyond them is never looked at.
@@ -48,7 +47,7 @@ impl Receiver {
         ensures { λ r. ⌜ outcome r (now (out .exit)) ≡ called (byte b) self (now (out .entry)) ⌝ }
     {
         let count = self.count;
-        let v = verdict::decide(&self.kept, count, b, out.len());
+        let v = line_verdict::decide(&self.kept, count, b, out.len());
         let mut answer = Answer::Delivered {
             bytes: 0,
             frames: 0,
@@ -93,7 +92,7 @@ impl Receiver {
         ensures { λ r. ⌜ outcome r (now (out .exit)) ≡ called silence self (now (out .entry)) ⌝ }
     {
         let count = self.count;
-        if !verdict::within_range(&self.kept, count) {
+        if !line_verdict::within_range(&self.kept, count) {
             return Received {
                 receiver: self,
                 answer: Answer::Refused(OUT_OF_RANGE),

@@ -4,10 +4,10 @@ use mathlib.Core.List.{List, map}
 use mathlib.Core.Bool.{Bool}
 use lib.ListN.{length}
 use lib.Dec.{leb}
-use Rattle.frame.specs.Memory.{over, pick}
+use Rattle.laws.specs.Memory.{over, pick}
 use Rattle.frame.specs.Refusals.{shortMemory}
-use Rattle.line.specs.Places.{Found, joined}
-use Rattle.line.specs.Scan.{Reading}
+use Rattle.line_terms.specs.Places.{Found, joined}
+use Rattle.line_terms.specs.Scan.{Reading}
 use Rattle.recording.specs.Block.{blockReading}
 use Rattle.listing.specs.Lines.{linesOf}
 use Rattle.listing.specs.declared.block.BlockListed.{BlockListed}

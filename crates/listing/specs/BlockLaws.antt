@@ -8,13 +8,13 @@ use native.Mathlib.Omega.{arith}
 use lib.ListN.{length, take}
 use lib.Dec.{leb}
 use borrow.Author.Tests.{le-leb, lt-leb, leb-true}
-use Rattle.frame.specs.Memory.{Outcome, outcome, over}
-use Rattle.frame.specs.MemoryLaws.{over-length, pick-cases}
+use Rattle.laws.specs.Memory.{Outcome, outcome, over}
+use Rattle.laws.specs.MemoryLaws.{over-length, pick-cases}
 use Rattle.frame.specs.EndToEnd.{EndToEnd, cutFrom, cut}
 use Rattle.frame.specs.EndToEndLaws.{cut-next}
-use Rattle.line.specs.Places.{Found, joined}
+use Rattle.line_terms.specs.Places.{Found, joined}
 use Rattle.line.specs.Drain.{symbols, readingFrom}
-use Rattle.line.specs.FoundFrames.{AllFrames, scan-frames, joined-end-to-end}
+use Rattle.line_terms.specs.FoundFrames.{AllFrames, scan-frames, joined-end-to-end}
 use Rattle.recording.specs.Block.{blockReading, blockRead}
 use Rattle.recording.specs.BlockLaws.{Within, block-few, rest-most, Delivers, read-declines, delivers-front}
 use Rattle.recording.specs.declared.BlockAnswer.the-variants as read

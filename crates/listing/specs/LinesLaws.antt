@@ -5,8 +5,8 @@ use mathlib.Core.List.{List, [], _∷_, _++_, append-nil, append-assoc}
 use native.Mathlib.Omega.{arith}
 use lib.ListN.{length, take, drop, getD, length-append, length-drop, drop-of-length-le}
 use lib.Seq.{append-snoc, take-all, length-take-le, getD-drop, drop-drop}
-use Rattle.frame.specs.Memory.{outcome, over}
-use Rattle.frame.specs.MemoryLaws.{over-length, lent-over}
+use Rattle.laws.specs.Memory.{outcome, over}
+use Rattle.laws.specs.MemoryLaws.{over-length, lent-over}
 use Rattle.frame.specs.Frame.{Frame, lengthOf}
 use Rattle.frame.specs.RecognitionLaws.{frame-spans, frame-one}
 use Rattle.frame.specs.EndToEnd.{EndToEnd, none, next, cutFrom, cut}

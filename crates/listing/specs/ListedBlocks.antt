@@ -6,10 +6,10 @@ use mathlib.Core.Bool.{Bool, true, false, _||_}
 use mathlib.Core.List.{List, [], _∷_, _++_}
 use lib.ListN.{length, take, drop}
 use lib.Seq.{take-append-seam}
-use Rattle.frame.specs.Memory.{over}
+use Rattle.laws.specs.Memory.{over}
 use Rattle.frame.specs.EndToEnd.{EndToEnd, cutFrom, cut}
 use Rattle.frame.specs.EndToEndLaws.{cut-append}
-use Rattle.line.specs.FoundFrames.{AllFrames}
+use Rattle.line_terms.specs.FoundFrames.{AllFrames}
 use Rattle.line.specs.Demand3.{Exactly}
 use Rattle.recording.specs.Block.{blockRead}
 use Rattle.recording.specs.RestLaws.{rest-there}

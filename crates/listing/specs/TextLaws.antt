@@ -8,8 +8,8 @@ use lib.ListN.{length, take, drop, set, length-append, length-map, length-drop, 
 use lib.Seq.{sets, length-take-le}
 use lib.Dec.{eqb}
 use borrow.Author.Tests.{eq-eqb, ne-eqb}
-use Rattle.frame.specs.Memory.{over, pick}
-use Rattle.frame.specs.MemoryLaws.{run-from}
+use Rattle.laws.specs.Memory.{over, pick}
+use Rattle.laws.specs.MemoryLaws.{run-from}
 use Rattle.frame.specs.Frame.{addressOf, controlOf, lengthOf, fieldOf, dataOf}
 use Rattle.frame.specs.Recognition.{exactlyOne}
 use Rattle.frame.specs.RecognitionLaws.{one-frame, frame-spans as spans}

@@ -7,7 +7,7 @@ use frame::refusal::SHORT_MEMORY;
 ghost use mathlib.Core.Path.{_≡_};
 ghost use Prim.Native.Nat.{_*_, _≤_};
 ghost use lib.ListN.{length};
-ghost use Rattle.frame.specs.Memory.{outcome, over};
+ghost use Rattle.laws.specs.Memory.{outcome, over};
 ghost use Rattle.frame.specs.EndToEnd.{EndToEnd, cut};
 ghost use Rattle.listing.specs.Lines.{linesOf};
 ghost use Rattle.listing.specs.Block.{blockOutcome, blockListed};

@@ -8,7 +8,7 @@ ghost use Prim.Native.Nat.{_+_, _*_, _≤_, _<_};
 ghost use lib.ListN.{length};
 ghost use lib.Seq.{sets};
 ghost use Rattle.frame.specs.Frame.{unmasked, lengthOf};
-ghost use Rattle.frame.specs.Memory.{outcome, over};
+ghost use Rattle.laws.specs.Memory.{outcome, over};
 ghost use Rattle.listing.specs.Text.{Spans, digit, hexOf, hexAll, headOf, tailOf, textOf, textLength, listing};
 
 // The answer to the listing of a frame; only `Length` leaves bytes in the output buffer.
@@ -64,7 +64,7 @@ fn write_data(field: &[u8], start: usize, out: &mut [u8])
     let mut at = start;
     while i < field.len() {
         let sent = field[i];
-        let meant = frame::unmask(sent);
+        let meant = frame_parts::unmask(sent);
         write_byte(meant, at, out);
         at += 2;
         i += 1;

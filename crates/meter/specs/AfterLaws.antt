@@ -7,34 +7,40 @@ use native.Mathlib.Omega.{arith}
 use lib.ListN.{length, take, length-append}
 use lib.Seq.{length-take-le}
 use borrow.Author.Tests.{leb-true, eqb-true}
-use Rattle.item.specs.AddressLaws.{good}
-use Rattle.item.specs.ChecksLaws.{AllHold}
+use Rattle.item_address.specs.AddressLaws.{good}
+use Rattle.laws.specs.ChecksLaws.{AllHold}
 use Rattle.item.specs.TableLaws.{listed-most}
 use Rattle.item.specs.declared.table.Lookup.{Lookup}
 use Rattle.item.specs.declared.table.Lookup.the-variants.{Listed, NotListed}
 use Rattle.energy.specs.Energies.{Rows}
-use Rattle.meter.specs.Meter.{Sized, withRegisters, placeOf}
-use Rattle.meter.specs.MeterLaws.{part-length, put-length, only-registers, registers-decimal, value-length, value-sized}
+use Rattle.meter.specs.Meter.{Sized, withRegisters}
+use Rattle.meter_holding.specs.Holding.{placeOf}
+use Rattle.meter_holding.specs.HoldingLaws.{registers-decimal}
+use Rattle.meter.specs.MeterLaws.{value-length, value-sized}
+use Rattle.laws.specs.PartLaws.{part-length, put-length}
 use Rattle.meter.specs.Ranges.{InRanges, ranges-again}
-use Rattle.meter.specs.Request.{controlFor, identifierOf, itemAsked, operatorOf, writtenValue, newLevelOf, newPasswordOf}
-use Rattle.meter.specs.Answer.{namesPassword, checksOf, valueOf, withItem, replyData, meterAfter}
-use Rattle.meter.specs.CommandLaws.{WriteHolds, write-holds}
+use Rattle.meter_decision.specs.Request.{itemAsked, operatorOf, writtenValue, newLevelOf, newPasswordOf}
+use Rattle.item_identifier.specs.Identifier.{identifierOf}
+use Rattle.item_command.specs.Command.{controlFor}
+use Rattle.meter.specs.Answer.{valueOf, withItem, replyData, meterAfter}
+use Rattle.meter_decision.specs.Decision.{namesPassword, checksOf}
+use Rattle.meter_decision.specs.DecisionLaws.{WriteHolds, write-holds}
 use Rattle.meter.specs.declared.Meter.{Meter}
-use Rattle.meter.specs.declared.request.Command.{Command}
-use Rattle.meter.specs.declared.request.Command.the-variants.{ReadData, ReadAddress, WriteData, WriteAddress, ChangePassword}
+use Rattle.item_command.specs.declared.Command.{Command}
+use Rattle.item_command.specs.declared.Command.the-variants.{ReadData, ReadAddress, WriteData, WriteAddress, ChangePassword}
 
 -- A write of what was looked up changes only registers.
 pub only-registers-of : (l : Lookup) (value : List ℕ) (m : Meter) → withItem l value m ≡ withRegisters (withItem l value m .registers) m
-only-registers-of (Listed item) value m = only-registers (placeOf (item .kind)) value m
+only-registers-of (Listed item) value m = refl
 only-registers-of NotListed value m = refl
 
 -- A command carried out leaves a meter its size.
-pub sized-after : (command : Command) (meant : List ℕ) (m : Meter) → Sized m → AllHold (checksOf command meant m) → Sized (meterAfter command meant m)
+pub sized-after : (command : Command) (meant : List ℕ) (m : Meter) → Sized m → AllHold (checksOf command meant (m .key) (m .passwords)) → Sized (meterAfter command meant m)
 unfolding checksOf meterAfter itemAsked operatorOf namesPassword newPasswordOf
 sized-after ReadData meant m sized h = sized
 sized-after ReadAddress meant m sized h = sized
 sized-after WriteData meant m sized h =
-    let w : WriteHolds meant m = write-holds meant m h in
+    let w : WriteHolds meant (m .key) (m .passwords) = write-holds meant (m .key) (m .passwords) h in
     let written : Sized (withItem (itemAsked meant) (writtenValue meant) m) =
     rw (w .listed) (value-sized (identifierOf meant) (w .item) (w .listed) m sized (writtenValue meant) (w .data-length)) in
     record {
@@ -63,15 +69,15 @@ sized-after ChangePassword meant m sized h =
 
 -- It leaves a meter within its ranges.
 pub ranges-after : (command : Command) (meant : List ℕ) (m : Meter) (forward reverse : Rows) → InRanges m forward reverse
-    → AllHold (checksOf command meant m) → InRanges (meterAfter command meant m) forward reverse
+    → AllHold (checksOf command meant (m .key) (m .passwords)) → InRanges (meterAfter command meant m) forward reverse
 unfolding checksOf meterAfter itemAsked
 ranges-after ReadData meant m forward reverse ranges h = ranges
 ranges-after ReadAddress meant m forward reverse ranges h = ranges
 ranges-after WriteData meant m forward reverse ranges h =
-    let w : WriteHolds meant m = write-holds meant m h in
+    let w : WriteHolds meant (m .key) (m .passwords) = write-holds meant (m .key) (m .passwords) h in
     ranges-again ranges (meterAfter WriteData meant m)
     (rw (only-registers-of (itemAsked meant) (writtenValue meant) m) (ranges .address))
-    (rw (w .listed) (registers-decimal (placeOf (w .item .kind)) (writtenValue meant) m (w .decimal) (ranges .registers)))
+    (rw (w .listed) (registers-decimal (placeOf (w .item .kind)) (writtenValue meant) (m .registers) (w .decimal) (ranges .registers)))
 ranges-after WriteAddress meant m forward reverse ranges h =
     ranges-again ranges (meterAfter WriteAddress meant m) (good meant (h .1 .1 .0)) (ranges .registers)
 ranges-after ChangePassword meant m forward reverse ranges h =
@@ -87,7 +93,7 @@ address-kept WriteAddress meant m h = absurd (h refl)
 address-kept ChangePassword meant m h = refl
 
 -- The normal reply has at most 56 data bytes.
-pub reply-most : (command : Command) (meant : List ℕ) (m : Meter) (forward reverse : Rows) → Sized m → AllHold (checksOf command meant m)
+pub reply-most : (command : Command) (meant : List ℕ) (m : Meter) (forward reverse : Rows) → Sized m → AllHold (checksOf command meant (m .key) (m .passwords))
     → length (replyData command meant m forward reverse) ≤ 56
 unfolding checksOf replyData itemAsked newPasswordOf
 reply-most ReadData meant m forward reverse sized h = go (itemAsked meant) refl

@@ -7,26 +7,28 @@ use native.Mathlib.Omega.{arith}
 use lib.ListN.{length}
 use lib.Dec.{leb}
 use borrow.Author.Tests.{leb-true, le-leb}
-use Rattle.frame.specs.Memory.{Outcome}
+use Rattle.laws.specs.Memory.{Outcome, Bytes}
 use Rattle.frame.specs.Refusals.{shortMemory, notOneFrame, notForThisMeter, outOfRange}
-use Rattle.frame.specs.Frame.{Frame, Bytes, addressOf, controlOf, fieldOf, dataOf, unmasked}
+use Rattle.frame.specs.Frame.{Frame, addressOf, controlOf, fieldOf, dataOf, unmasked}
 use Rattle.frame.specs.FrameLaws.{control-back}
 use Rattle.frame.specs.Recognition.{exactlyOne}
 use Rattle.frame.specs.RecognitionLaws.{one-frame, frame-one}
-use Rattle.item.specs.ChecksLaws.{AllHold, all-pass, pass-or-fail}
-use Rattle.item.specs.Reply.{replyTo}
-use Rattle.frame.specs.MemoryLaws.{pick-cases}
+use Rattle.laws.specs.ChecksLaws.{AllHold, all-pass, pass-or-fail}
+use Rattle.item_command.specs.Reply.{replyTo}
+use Rattle.laws.specs.MemoryLaws.{pick-cases}
 use Rattle.energy.specs.Energies.{Rows}
 use Rattle.meter.specs.Meter.{withinRanges}
 use Rattle.meter.specs.Ranges.{InRanges, within-ranges}
-use Rattle.meter.specs.Request.{controlFor, addressed}
-use Rattle.meter.specs.Answer.{Treatment, silent, replies, Failure, errorByte, silence, failed, checksOf, replyData, meterAfter, carriedOut, forMeter, treated, refused, delivered, answered}
-use Rattle.meter.specs.CommandLaws.{command-known, asks, Asks, known, unknown, same-control, failsSilently, FailsAs, checks-fail}
+use Rattle.item_command.specs.Command.{controlFor, addressed}
+use Rattle.meter.specs.Answer.{Treatment, silent, replies, failed, replyData, meterAfter, carriedOut, forMeter, treated, refused, delivered, answered}
+use Rattle.meter_decision.specs.Decision.{Failure, errorByte, silence, checksOf}
+use Rattle.meter_decision.specs.DecisionLaws.{failsSilently, FailsAs, checks-fail}
+use Rattle.item_command.specs.CommandLaws.{command-known, asks, Asks, known, unknown, same-control}
 use Rattle.meter.specs.declared.Meter.{Meter}
 use Rattle.meter.specs.declared.Answered.{Answered}
 use Rattle.meter.specs.declared.FrameAnswer.the-variants.{Replied, Refused}
-use Rattle.meter.specs.declared.request.Command.{Command}
-use Rattle.meter.specs.declared.request.Asked.{Asked}
+use Rattle.item_command.specs.declared.Command.{Command}
+use Rattle.item_command.specs.declared.Asked.{Asked}
 
 -- The data of a frame are bytes.
 pub data-bytes : (bytes : List ℕ) → Bytes (dataOf bytes)
@@ -74,20 +76,20 @@ module _ (bytes : List ℕ) (m : Meter) (forward reverse : Rows) where
         (replies (replyTo (controlFor command) false) (replyData command (dataOf bytes) m forward reverse) (meterAfter command (dataOf bytes) m))
         m memory
 
-    pub answered-normal : (command : Command) → Reaches command → AllHold (checksOf command (dataOf bytes) m)
+    pub answered-normal : (command : Command) → Reaches command → AllHold (checksOf command (dataOf bytes) (m .key) (m .passwords))
         → answered bytes m forward reverse memory ≡ normal command
     unfolding treated carriedOut
     answered-normal command w h =
         answered-treated (w .ranges) (w .room) (w .one-frame)
         ∙ rw (w .control, command-known command, w .for-meter)
-        (ap (λ (t : Treatment). delivered t m memory) (all-pass (failed command m) _ (checksOf command (dataOf bytes) m) h))
+        (ap (λ (t : Treatment). delivered t m memory) (all-pass (failed command m) _ (checksOf command (dataOf bytes) (m .key) (m .passwords)) h))
 
     -- The ways that an answer comes about: a refusal, an error reply, or the normal reply where every check holds.
     pub data Answers : Type 0 where
       refuses : (n : ℕ) → (InRanges m forward reverse → n < outOfRange) → answered bytes m forward reverse memory ≡ refused n m memory → Answers
       errs : (command : Command) (e : ℕ) → Reaches command → failsSilently command ≡ false
           → answered bytes m forward reverse memory ≡ delivered (replies (replyTo (controlFor command) true) (e ∷ []) m) m memory → Answers
-      carries : (command : Command) → Reaches command → AllHold (checksOf command (dataOf bytes) m)
+      carries : (command : Command) → Reaches command → AllHold (checksOf command (dataOf bytes) (m .key) (m .passwords))
           → answered bytes m forward reverse memory ≡ normal command → Answers
 
     pub answers : Answers
@@ -115,8 +117,8 @@ module _ (bytes : List ℕ) (m : Meter) (forward reverse : Rows) where
 
         carried : (command : Command) → Reaches command → P (delivered (carriedOut command (dataOf bytes) m forward reverse) m memory)
         carried command w =
-            pass-or-fail (failed command m) _ (λ t. P (delivered t m memory)) (FailsAs command) (checksOf command (dataOf bytes) m)
-            (checks-fail command (dataOf bytes) m) (carries command w) fail
+            pass-or-fail (failed command m) _ (λ t. P (delivered t m memory)) (FailsAs command) (checksOf command (dataOf bytes) (m .key) (m .passwords))
+            (checks-fail command (dataOf bytes) (m .key) (m .passwords)) (carries command w) fail
           where
             fail : (f : Failure) → FailsAs command f → P (delivered (failed command m f) m memory)
             fail (errorByte e) h = errs command e w h

@@ -8,22 +8,24 @@ use lib.ListN.{getD, set, take}
 use lib.Dec.{leb, eqb}
 use Rattle.frame.specs.Frame.{dataOf}
 use Rattle.frame.specs.Refusals.{outOfRange}
-use Rattle.item.specs.Address.{Good}
-use Rattle.item.specs.AddressLaws.{is-good}
-use Rattle.item.specs.Decimal.{isDecimal, firstBadFrom, firstBad, allDecimal}
-use Rattle.frame.specs.MemoryLaws.{pick-cases}
+use Rattle.item_address.specs.Address.{Good}
+use Rattle.item_address.specs.AddressLaws.{is-good}
+use Rattle.item_decimal.specs.Decimal.{isDecimal, firstBadFrom, firstBad, allDecimal}
+use Rattle.laws.specs.MemoryLaws.{pick-cases}
 use Rattle.energy.specs.Reading.{Reading, zeroReading, readingInRange, plusAmount}
 use Rattle.energy.specs.Energies.{Rows, zeroRows, rowInRange, rowsInRange, pulsed, settled, isRate, pulsedRows}
+use Rattle.meter_holding.specs.Holding as holding
 use Rattle.meter.specs.Meter.{withKey, withinRanges, freshMeter}
 use Rattle.meter.specs.Ranges.{RowInRange, RowsInRange, InRanges, reading-most, within-ranges, ranges-again}
+use Rattle.meter_counting.specs.Counting as counting
 use Rattle.meter.specs.Host.{created, keySet, pulsedBy, settledBy}
 use Rattle.meter.specs.Answer.{delivered, answered}
 use Rattle.meter.specs.AfterLaws.{ranges-after}
 use Rattle.meter.specs.AnswerLaws.{Answers, refuses, errs, carries, answers}
-use Rattle.meter.specs.declared.Counted.{Counted}
+use Rattle.meter_counting.specs.declared.Counted.{Counted}
 use Rattle.meter.specs.declared.Meter.{Meter}
-use Rattle.meter.specs.declared.HostAnswer.{HostAnswer}
-use Rattle.meter.specs.declared.HostAnswer.the-variants as host
+use Rattle.meter_counting.specs.declared.HostAnswer.{HostAnswer}
+use Rattle.meter_counting.specs.declared.HostAnswer.the-variants as host
 use Rattle.meter.specs.declared.FrameAnswer.{FrameAnswer}
 use Rattle.meter.specs.declared.FrameAnswer.the-variants as frames
 
@@ -128,7 +130,7 @@ module _ (m : Meter) (forward reverse : Rows) (h : InRanges m forward reverse) w
   CountedKept c = Kept m (c .energies .forward) (c .energies .reverse) (c .answer ≡ host.Refused outOfRange)
 
   pulse-kept : (amount direction rate : ℕ) → CountedKept (pulsedBy amount direction rate m forward reverse)
-  unfolding pulsedBy
+  unfolding counting.pulsedBy
   pulse-kept amount direction rate =
       rw (within-ranges m forward reverse .1 h)
       (pick-cases CountedKept (leb direction 1 && isRate rate)
@@ -138,7 +140,7 @@ module _ (m : Meter) (forward reverse : Rows) (h : InRanges m forward reverse) w
       (λ _. (h, λ r. omega (arith, ap hostNumber r))))
 
   settle-kept : CountedKept (settledBy m forward reverse)
-  unfolding settledBy
+  unfolding counting.settledBy
   settle-kept =
       rw (within-ranges m forward reverse .1 h)
       (readings-again (settled-in-range forward (h .forward-readings)) (settled-in-range reverse (h .reverse-readings)), λ r. omega (arith, ap hostNumber r))
@@ -175,7 +177,7 @@ all-within (c ∷ calls) s h = all-within calls (after c s) (keeps-within c s h)
 
 -- A fresh meter is within its ranges.
 fresh-within : (address : List ℕ) → Good address → InRanges (freshMeter address) zeroRows zeroRows
-unfolding freshMeter withinRanges allDecimal firstBad firstBadFrom isDecimal rowsInRange rowInRange readingInRange
+unfolding freshMeter holding.withinRanges allDecimal firstBad firstBadFrom isDecimal rowsInRange rowInRange readingInRange
 fresh-within address h = within-ranges (freshMeter address) zeroRows zeroRows .0 (rw (is-good address h))
 
 -- No calls from a fresh meter lead to 16.

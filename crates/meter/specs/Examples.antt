@@ -4,20 +4,25 @@ use mathlib.Core.List.{[], _∷_}
 use mathlib.Core.Bool.{true}
 use lib.ListN.{replicate}
 use Rattle.frame.specs.Examples.{one, caseA, caseC, caseE}
-use Rattle.frame.specs.Frame.{total, checksumOf, masked, unmasked, summed, frameOf, addressOf, controlOf, lengthOf, fieldOf, dataOf}
-use Rattle.frame.specs.Writing.{frameFor}
-use Rattle.item.specs.Checks.{firstFailing}
+use Rattle.frame.specs.Frame.{total, checksumOf, masked, unmasked, summed, frameOf, addressOf, controlOf, lengthOf, fieldOf, dataOf, frameFor}
+use Rattle.laws.specs.Checks.{firstFailing}
 use Rattle.item.specs.Content.{digitsAt, within, minutesInRange, inRange, contentOf}
-use Rattle.item.specs.Decimal.{isDecimal, firstBadFrom, firstBad, digits, lowDigits, packed}
-use Rattle.item.specs.Reply.{controlCode, replyTo}
-use Rattle.item.specs.Same.{same}
+use Rattle.item_decimal.specs.Decimal.{isDecimal, firstBadFrom, firstBad, digits, lowDigits, packed}
+use Rattle.item_command.specs.Reply.{controlCode, replyTo}
+use Rattle.item_same.specs.Same.{same}
 use Rattle.item.specs.Table.{itemOf, energyItem, readings, otherRows, found}
 use Rattle.energy.specs.Reading.{readingBytes}
 use Rattle.energy.specs.Energies.{Rows, zeroRows, readingAt}
-use Rattle.meter.specs.Columns.{columnBytes, columnsBytes}
-use Rattle.meter.specs.Meter.{withPart, withKey, passwordAt, placeOf, heldAt, valueHeld, withValue, freshMeter}
-use Rattle.meter.specs.Request.{commandOf, addressed, identifierOf, itemAsked, levelOf, passwordOf, operatorOf, writtenValue}
-use Rattle.meter.specs.Answer.{replies, authorised, checksOf, replyData, meterAfter, carriedOut, treated}
+use Rattle.meter_holding.specs.Columns.{columnBytes, columnsBytes}
+use Rattle.meter.specs.Meter.{withKey, freshMeter}
+use Rattle.meter_decision.specs.Decision.{passwordAt, authorised, checksOf}
+use Rattle.meter_holding.specs.Holding.{placeOf, heldAt, registersWith}
+use Rattle.meter_holding.specs.Holding as holding
+use Rattle.laws.specs.Part.{withPart}
+use Rattle.meter_decision.specs.Request.{itemAsked, levelOf, passwordOf, operatorOf, writtenValue}
+use Rattle.item_identifier.specs.Identifier.{identifierOf}
+use Rattle.item_command.specs.Command.{commandOf, addressed}
+use Rattle.meter.specs.Answer.{replies, replyData, meterAfter, carriedOut, treated}
 
 -- A forward total of 123456.78 kWh.
 abbrev forward : Rows
@@ -26,7 +31,7 @@ forward = (12345678 ∷ replicate 4 0) ∷ replicate 12 (replicate 5 0)
 -- A is answered with B's data.
 read-total : treated caseA (freshMeter one) forward zeroRows
     ≡ replies 0x91 (0x00 ∷ 0x00 ∷ 0x01 ∷ 0x00 ∷ 0x78 ∷ 0x56 ∷ 0x34 ∷ 0x12 ∷ []) (freshMeter one)
-unfolding treated commandOf controlOf addressed addressOf freshMeter same carriedOut firstFailing checksOf dataOf fieldOf lengthOf unmasked itemAsked identifierOf itemOf energyItem readings replyTo controlCode replyData valueHeld placeOf heldAt columnsBytes columnBytes readingAt readingBytes packed lowDigits meterAfter
+unfolding treated commandOf controlOf addressed addressOf freshMeter same carriedOut firstFailing checksOf dataOf fieldOf lengthOf unmasked itemAsked identifierOf itemOf energyItem readings replyTo controlCode replyData holding.valueHeld placeOf heldAt columnsBytes columnBytes readingAt readingBytes packed lowDigits meterAfter
 read-total = refl
 
 -- An unknown identifier is answered with D's data.
@@ -51,10 +56,10 @@ write-period : treated caseE (withKey true (freshMeter one)) forward zeroRows
           0x06 ∷ 0x01 ∷ 0x01 ∷ 0x00 ∷ 0x00 ∷ 0x00 ∷ 0x00 ∷ 0x30 ∷ 0x01 ∷ 0x00 ∷ 0x00 ∷ 0x00 ∷ 0x00 ∷ 0x00 ∷ 0x00 ∷ 0x00 ∷ 0x01 ∷ 0x99 ∷ 0x99
           ∷ 0x99 ∷ 0x99 ∷ [];
     })
-unfolding treated commandOf controlOf addressed addressOf freshMeter same carriedOut firstFailing checksOf dataOf fieldOf lengthOf unmasked itemAsked identifierOf itemOf found otherRows levelOf passwordOf operatorOf writtenValue authorised passwordAt within contentOf firstBad firstBadFrom isDecimal inRange minutesInRange digitsAt digits replyTo controlCode replyData meterAfter withValue placeOf withPart
+unfolding treated commandOf controlOf addressed addressOf freshMeter same carriedOut firstFailing checksOf dataOf fieldOf lengthOf unmasked itemAsked identifierOf itemOf found otherRows levelOf passwordOf operatorOf writtenValue authorised passwordAt within contentOf firstBad firstBadFrom isDecimal inRange minutesInRange digitsAt digits replyTo controlCode replyData meterAfter registersWith placeOf withPart
 write-period = refl
 
 -- E, with the key off: error 04.
 write-without-key : treated caseE (freshMeter one) forward zeroRows ≡ replies 0xD4 (0x04 ∷ []) (freshMeter one)
-unfolding treated commandOf controlOf addressed addressOf freshMeter same carriedOut firstFailing checksOf dataOf fieldOf lengthOf unmasked itemAsked identifierOf itemOf found otherRows levelOf passwordOf operatorOf writtenValue authorised passwordAt within contentOf firstBad firstBadFrom isDecimal inRange minutesInRange digitsAt digits replyTo controlCode replyData meterAfter withValue placeOf withPart
+unfolding treated commandOf controlOf addressed addressOf freshMeter same carriedOut firstFailing checksOf dataOf fieldOf lengthOf unmasked itemAsked identifierOf itemOf found otherRows levelOf passwordOf operatorOf writtenValue authorised passwordAt within contentOf firstBad firstBadFrom isDecimal inRange minutesInRange digitsAt digits replyTo controlCode replyData meterAfter registersWith placeOf withPart
 write-without-key = refl

@@ -5,12 +5,13 @@ use mathlib.Core.List.{List, [], _∷_}
 use mathlib.Core.Bool.{true, and-eq-true-iff}
 use mathlib.Core.Logic.{_↔_, Iff·rfl}
 use borrow.Author.Tests.{leb-true, le-leb}
-use Rattle.item.specs.Address.{Good}
-use Rattle.item.specs.AddressLaws.{good, is-good}
-use Rattle.item.specs.Decimal.{Decimal}
-use Rattle.item.specs.DecimalLaws.{all-decimal, decimal-all}
+use Rattle.item_address.specs.Address.{Good}
+use Rattle.item_address.specs.AddressLaws.{good, is-good}
+use Rattle.item_decimal.specs.Decimal.{Decimal}
+use Rattle.item_decimal.specs.DecimalLaws.{all-decimal, decimal-all}
 use Rattle.energy.specs.Energies.{Rows, rowInRange, rowsInRange}
 use Rattle.energy.specs.Reading.{Reading, readingInRange}
+use Rattle.meter_holding.specs.Holding as holding
 use Rattle.meter.specs.Meter.{withinRanges}
 use Rattle.meter.specs.declared.Meter.{Meter}
 
@@ -47,7 +48,7 @@ rows-in-range [] = (λ h. tt, λ u. refl)
 rows-in-range (row ∷ rows) = simp (and-eq-true-iff, row-in-range, rows-in-range rows) Iff·rfl
 
 pub within-ranges : (m : Meter) (forward reverse : Rows) → (withinRanges m forward reverse ≡ true) ↔ InRanges m forward reverse
-unfolding withinRanges
+unfolding holding.withinRanges
 within-ranges m forward reverse = (from-test, to-test)
   where
     from-test : withinRanges m forward reverse ≡ true → InRanges m forward reverse

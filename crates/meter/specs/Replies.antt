@@ -6,20 +6,19 @@ use mathlib.Core.Bool.{true, false, true≢false}
 use native.Mathlib.Omega.{arith}
 use lib.ListN.{length, take, drop}
 use lib.Seq.{take-at, drop-at}
-use Rattle.frame.specs.Frame.{Frame, addressOf, controlOf, dataOf}
+use Rattle.frame.specs.Frame.{Frame, addressOf, controlOf, dataOf, frameFor}
 use Rattle.frame.specs.FrameLaws.{frame-for, frame-for-length, address-back}
-use Rattle.frame.specs.Writing.{frameFor}
-use Rattle.item.specs.Reply.{replyTo}
+use Rattle.item_command.specs.Reply.{replyTo}
 use Rattle.energy.specs.Energies.{Rows}
 use Rattle.meter.specs.Meter.{Sized}
-use Rattle.meter.specs.Request.{controlFor}
+use Rattle.item_command.specs.Command.{controlFor}
 use Rattle.meter.specs.Answer.{replies, replyData, meterAfter, delivered, answered}
-use Rattle.meter.specs.CommandLaws.{failsSilently}
+use Rattle.meter_decision.specs.DecisionLaws.{failsSilently}
 use Rattle.meter.specs.AfterLaws.{sized-after, address-kept, reply-most}
 use Rattle.meter.specs.AnswerLaws.{not-replied, reaches-one, Answers, refuses, errs, carries, answers}
 use Rattle.meter.specs.declared.Meter.{Meter}
 use Rattle.meter.specs.declared.FrameAnswer.the-variants.{Replied}
-use Rattle.meter.specs.declared.request.Command.the-variants.{WriteAddress}
+use Rattle.item_command.specs.declared.Command.the-variants.{WriteAddress}
 
 -- The first `n` bytes of the memory are one frame from the address that the meter then has; beyond it the memory is as it was.
 pub record RepliesFromOwn (bytes : List ℕ) (m : Meter) (forward reverse : Rows) (memory : List ℕ) (n : ℕ) : Type 0 where

@@ -8,20 +8,20 @@ use lib.ListN.{length}
 use Rattle.frame.specs.Frame.{Frame, addressOf, controlOf}
 use Rattle.frame.specs.RecognitionLaws.{frame-least}
 use Rattle.frame.specs.Refusals.{notForThisMeter}
-use Rattle.item.specs.Address.{wildcards, shortMatches, ShortFor}
-use Rattle.item.specs.AddressLaws.{short-for}
-use Rattle.item.specs.Same.{same}
-use Rattle.item.specs.SameLaws.{same-equal}
+use Rattle.item_address.specs.Address.{wildcards, shortMatches, ShortFor}
+use Rattle.item_address.specs.AddressLaws.{short-for}
+use Rattle.item_same.specs.Same.{same}
+use Rattle.item_same.specs.SameLaws.{same-equal}
 use Rattle.energy.specs.Energies.{Rows}
 use Rattle.meter.specs.Meter.{Sized}
 use Rattle.meter.specs.Ranges.{InRanges}
-use Rattle.meter.specs.MeterLaws.{part-length}
-use Rattle.meter.specs.Request.{controlFor, addressed}
+use Rattle.laws.specs.PartLaws.{part-length}
+use Rattle.item_command.specs.Command.{controlFor, addressed}
 use Rattle.meter.specs.Answer.{Treatment, silent, refused, delivered, answered}
 use Rattle.meter.specs.AnswerLaws.{treated-cases, answered-treated}
 use Rattle.meter.specs.declared.Meter.{Meter}
-use Rattle.meter.specs.declared.request.Command.{Command}
-use Rattle.meter.specs.declared.request.Command.the-variants.{ReadData, ReadAddress, WriteData, WriteAddress, ChangePassword}
+use Rattle.item_command.specs.declared.Command.{Command}
+use Rattle.item_command.specs.declared.Command.the-variants.{ReadData, ReadAddress, WriteData, WriteAddress, ChangePassword}
 
 -- An address of a read by 11: the meter's own, or a short one that matches it.
 pub data ReadFor (address own : List ℕ) : Type 0 where

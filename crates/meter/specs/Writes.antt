@@ -5,34 +5,38 @@ use mathlib.Core.Path.{_≡_, refl, sym, ap, _∙_}
 use mathlib.Core.List.{List, [], _∷_, _++_, append-nil}
 use mathlib.Core.Bool.{Bool, true, false, true≢false}
 use native.Mathlib.Omega.{arith}
-use lib.ListN.{length, getD, take, length-append}
-use lib.Seq.{length-take-le, getD-take, take-all}
+use lib.ListN.{length, take, length-append}
+use lib.Seq.{length-take-le, take-all}
 use borrow.Author.Tests.{eq-eqb}
-use Rattle.frame.specs.Memory.{outcome, over}
-use Rattle.frame.specs.Frame.{Frame, Bytes, addressOf, controlOf, dataOf}
+use Rattle.laws.specs.Memory.{outcome, over, Bytes}
+use Rattle.frame.specs.Frame.{Frame, addressOf, controlOf, dataOf, frameFor}
 use Rattle.frame.specs.FrameLaws.{frame-for, address-back, control-back, data-back}
-use Rattle.frame.specs.Writing.{frameFor}
-use Rattle.item.specs.ChecksLaws.{AllHold}
+use Rattle.laws.specs.ChecksLaws.{AllHold}
 use Rattle.item.specs.ContentLaws.{Range}
-use Rattle.item.specs.Decimal.{Decimal}
-use Rattle.item.specs.Reply.{controlCode, replyTo}
-use Rattle.item.specs.SameLaws.{same-equal, same-refl, equal-same}
+use Rattle.item_decimal.specs.Decimal.{Decimal}
+use Rattle.item_command.specs.Reply.{controlCode, replyTo}
+use Rattle.item_same.specs.SameLaws.{same-equal, same-refl, equal-same}
 use Rattle.item.specs.Table.{itemOf}
 use Rattle.item.specs.declared.table.Item.{Item}
 use Rattle.item.specs.declared.table.Lookup.the-variants.{Listed}
 use Rattle.energy.specs.Energies.{Rows}
-use Rattle.meter.specs.Meter.{Sized, passwordAt, valueHeld}
-use Rattle.meter.specs.MeterLaws.{noted-value, value-length, value-back, value-other}
+use Rattle.meter.specs.Meter.{Sized, valueHeld}
+use Rattle.meter_decision.specs.Decision.{passwordAt, checksOf}
+use Rattle.meter.specs.MeterLaws.{value-length, value-back, value-other}
 use Rattle.meter.specs.Ranges.{InRanges}
-use Rattle.meter.specs.Request.{controlFor, addressed, identifierOf, itemAsked, levelOf, passwordOf, operatorOf, writtenValue}
-use Rattle.meter.specs.Answer.{checksOf, withItem, replyData, meterAfter, answeredWith, delivered, answered}
-use Rattle.meter.specs.CommandLaws.{WriteHolds, write-holds, holds-write, same-control}
+use Rattle.meter_decision.specs.Request.{itemAsked, levelOf, passwordOf, operatorOf, writtenValue}
+use Rattle.item_identifier.specs.Identifier.{identifierOf}
+use Rattle.item_identifier.specs.IdentifierLaws.{identifier-take}
+use Rattle.item_command.specs.Command.{controlFor, addressed}
+use Rattle.meter.specs.Answer.{replyData, meterAfter, answeredWith, delivered, answered}
+use Rattle.meter_decision.specs.DecisionLaws.{WriteHolds, write-holds, holds-write}
+use Rattle.item_command.specs.CommandLaws.{same-control}
 use Rattle.meter.specs.AfterLaws.{only-registers-of, sized-after, ranges-after, address-kept}
 use Rattle.meter.specs.AnswerLaws.{data-bytes, Reaches, answered-normal, not-replied, reply-control, Answers, refuses, errs, carries, answers}
 use Rattle.meter.specs.declared.Meter.{Meter}
 use Rattle.meter.specs.declared.FrameAnswer.the-variants.{Replied}
-use Rattle.meter.specs.declared.request.Command.{Command}
-use Rattle.meter.specs.declared.request.Command.the-variants.{ReadData, ReadAddress, WriteData, WriteAddress, ChangePassword}
+use Rattle.item_command.specs.declared.Command.{Command}
+use Rattle.item_command.specs.declared.Command.the-variants.{ReadData, ReadAddress, WriteData, WriteAddress, ChangePassword}
 
 -- Every check of document 01 that a write with these bytes meets, in its order: 16, 1, 2, 3, 4, and the table's row of 14.
 pub record EveryCheckHolds (bytes : List ℕ) (m : Meter) (forward reverse : Rows) (memory : List ℕ) : Type 0 where
@@ -48,7 +52,7 @@ pub record EveryCheckHolds (bytes : List ℕ) (m : Meter) (forward reverse : Row
   pub writable : item .writable ≡ true
   pub key-on : m .key ≡ true
   pub level : levelOf (dataOf bytes) ≤ 4
-  pub password : passwordOf (dataOf bytes) ≡ passwordAt (levelOf (dataOf bytes)) m
+  pub password : passwordOf (dataOf bytes) ≡ passwordAt (levelOf (dataOf bytes)) (m .passwords)
   pub data-length : length (writtenValue (dataOf bytes)) ≡ item .length
   pub decimal : Decimal (writtenValue (dataOf bytes))
   pub range : Range (item .kind) (writtenValue (dataOf bytes))
@@ -86,14 +90,6 @@ bytes-take zero xs h = tt
 bytes-take (suc n) [] h = tt
 bytes-take (suc n) (x ∷ xs) h = (h .0, bytes-take n xs (h .1))
 
--- The identifier stands in the first four bytes.
-identifier-take : (meant : List ℕ) → identifierOf (take 4 meant) ≡ identifierOf meant
-unfolding identifierOf
-identifier-take meant = rw (at 0 (omega arith), at 1 (omega arith), at 2 (omega arith), at 3 (omega arith))
-  where
-    at : (i : ℕ) → i < 4 → getD (take 4 meant) i 0 ≡ getD meant i 0
-    at i h = getD-take 4 meant i 0 h
-
 -- A read of a listed item by the meter's own address gives its value.
 read-value : (identifier own value : List ℕ) (item : Item) (m : Meter) (forward reverse : Rows) (memory : List ℕ) → Bytes identifier
     → length identifier ≡ 4 → itemOf (identifierOf identifier) ≡ Listed item → Sized m → InRanges m forward reverse → 212 ≤ length memory
@@ -125,10 +121,10 @@ module _ {bytes : List ℕ} {m : Meter} {forward reverse : Rows} {memory : List 
   unfolding addressed
   reaches w = search (equal-same (addressOf bytes) (m .address) (w .address))
 
-  row-holds : EveryCheckHolds bytes m forward reverse memory → WriteHolds (dataOf bytes) m
+  row-holds : EveryCheckHolds bytes m forward reverse memory → WriteHolds (dataOf bytes) (m .key) (m .passwords)
   row-holds w = search
 
-  every-check : Reaches bytes m forward reverse memory WriteData → WriteHolds (dataOf bytes) m → EveryCheckHolds bytes m forward reverse memory
+  every-check : Reaches bytes m forward reverse memory WriteData → WriteHolds (dataOf bytes) (m .key) (m .passwords) → EveryCheckHolds bytes m forward reverse memory
   unfolding addressed
   every-check r w = search (same-equal (addressOf bytes) (m .address) (r .for-meter))
 
@@ -144,8 +140,7 @@ accepted-write bytes m forward reverse memory sized w =
       held = held;
       operator = refl;
       others =
-          λ identifier other h differ. noted-value other (operatorOf meant) written forward reverse
-          ∙ rw (w .listed)
+          λ identifier other h differ. rw (w .listed)
           (value-other (identifierOf meant) (w .item) (w .listed) m sized (writtenValue meant) (w .data-length) (w .writable) identifier other h differ
           forward reverse);
       address = kept;
@@ -161,22 +156,18 @@ accepted-write bytes m forward reverse memory sized w =
     meant : List ℕ
     meant = dataOf bytes
 
-    all : AllHold (checksOf WriteData meant m)
-    all = holds-write meant m (row-holds w)
+    all : AllHold (checksOf WriteData meant (m .key) (m .passwords))
+    all = holds-write meant (m .key) (m .passwords) (row-holds w)
 
     after : Meter
     after = meterAfter WriteData meant m
-
-    written : Meter
-    written = withItem (itemAsked meant) (writtenValue meant) m
 
     kept : after .address ≡ m .address
     kept = address-kept WriteData meant m (λ e. omega arith)
 
     held : valueHeld (w .item) after forward reverse ≡ writtenValue meant
     held =
-        noted-value (w .item) (operatorOf meant) written forward reverse
-        ∙ rw (w .listed) (value-back (identifierOf meant) (w .item) (w .listed) m sized (writtenValue meant) (w .data-length) (w .writable) forward reverse)
+        rw (w .listed) (value-back (identifierOf meant) (w .item) (w .listed) m sized (writtenValue meant) (w .data-length) (w .writable) forward reverse)
 
 -- Only the normal reply to 14 is 94.
 control-below : (command : Command) → controlFor command < 32
@@ -241,4 +232,4 @@ no-write bytes m forward reverse memory sized h = go (answers bytes m forward re
         other : controlFor command ≡ 0x14 → ⊥
         other c =
             let same : command ≡ WriteData = same-control command WriteData c in
-            h (every-check (rw same at w) (write-holds (dataOf bytes) m (rw same at all)))
+            h (every-check (rw same at w) (write-holds (dataOf bytes) (m .key) (m .passwords) (rw same at all)))

@@ -1,61 +1,28 @@
 // A meter of DL/T 645-2007: document 01, "What the meter holds" and "How the meter treats a frame". Every operation takes the
 // meter and both directions' readings by value, refuses with 16 what is outside document 01's ranges before anything else,
 // and hands back what it changed.
-mod columns;
-mod password;
-mod place;
-mod read;
-mod request;
-mod treat;
-mod treated;
-mod write;
+mod answer;
+mod change;
 
+use answer::refused;
+use answer::treat;
 use energy::Energies;
 use energy::Rows;
 use energy::rows;
-use frame::Written;
 use frame::refusal::BAD_ARGUMENT;
 use frame::refusal::NOT_ONE_FRAME;
 use frame::refusal::OUT_OF_RANGE;
 use frame::refusal::SHORT_MEMORY;
-use item::address::is_good;
-use item::decimal::all_decimal;
-use treat::treat;
-use treated::Treated;
-use treated::Verdict;
+use item_address::is_good;
+use meter_counting::Counted;
+use meter_counting::HostAnswer;
+use meter_holding::fresh_registers;
+use meter_holding::within_ranges;
 ghost use mathlib.Core.Path.{_≡_};
-ghost use Prim.Native.Nat.{_≤_};
-ghost use lib.ListN.{length};
-ghost use Rattle.frame.specs.Memory.{outcome};
+ghost use Rattle.laws.specs.Memory.{outcome};
 ghost use Rattle.meter.specs.Meter.{withinRanges};
-ghost use Rattle.meter.specs.Host.{created, keySet, counted, pulsedBy, settledBy};
-ghost use Rattle.meter.specs.Answer.{answeredWith, delivered, answered};
-ghost use Rattle.meter.specs.Treated.{meaningOf, countOf};
-
-// Date 00-01-01 with WW 06, time zero, period 15, slip 1, meter number zero, first settlement day 0100, others 9999.
-const FRESH_REGISTERS: [u8; 21] = [
-    0x06,
-    0x01,
-    0x01,
-    0x00,
-    0x00,
-    0x00,
-    0x00,
-    0x15,
-    0x01,
-    0x00,
-    0x00,
-    0x00,
-    0x00,
-    0x00,
-    0x00,
-    0x00,
-    0x01,
-    0x99,
-    0x99,
-    0x99,
-    0x99,
-];
+ghost use Rattle.meter.specs.Host.{created, keySet, pulsedBy, settledBy};
+ghost use Rattle.meter.specs.Answer.{answered};
 
 // What a meter holds besides its readings.
 pub struct Meter {
@@ -66,15 +33,8 @@ pub struct Meter {
     pub passwords: [u8; 30],
     // The last operator code.
     pub operator: [u8; 4],
-    // Date, time, demand period, slip, meter number and three settlement days, at the places that place.rt gives them.
+    // Date, time, demand period, slip, meter number and three settlement days, at the places that `meter_holding` gives them.
     pub registers: [u8; 21],
-}
-
-// The answer to a call of the host.
-pub enum HostAnswer {
-    Done,
-    // A refusal, by document 01's number: all as before.
-    Refused(u8),
 }
 
 // A fresh meter with its readings. With a refusal there is no meter: what comes back has the bad address, and every
@@ -88,12 +48,6 @@ pub struct Created {
 // The meter after its key was set.
 pub struct KeySet {
     pub meter: Meter,
-    pub answer: HostAnswer,
-}
-
-// The readings after a pulse or a settlement.
-pub struct Counted {
-    pub energies: Energies,
     pub answer: HostAnswer,
 }
 
@@ -111,52 +65,18 @@ pub struct Answered {
     pub answer: FrameAnswer,
 }
 
-// A refusal: the meter as it was.
-fn refused(meter: Meter, refusal: u8) -> Answered
-    ensures { λ r. ⌜ r ≡ answeredWith meter (FrameAnswer.Refused refusal) ⌝ }
-{
-    Answered {
-        meter,
-        answer: FrameAnswer::Refused(refusal),
-    }
-}
-
-// Writes a reply to the front of the output buffer, or leaves it as it was with a refusal.
-fn deliver(meter: Meter, decided: Treated, out: &mut [u8]) -> Answered
-    requires { ⌜ countOf (decided .verdict) ≤ 200 ⌝ }
-    requires { ⌜ 212 ≤ length (now out) ⌝ }
-    ensures { λ r. ⌜ outcome r (now (out .exit)) ≡ delivered (meaningOf (decided .verdict) (decided .meant) (decided .meter)) meter (now (out .entry)) ⌝ }
-{
-    let verdict = decided.verdict;
-    match verdict {
-        Verdict::Silent(refusal) => refused(meter, refusal),
-        Verdict::Reply { control, count } => {
-            let after = decided.meter;
-            let address = after.address;
-            let meant = decided.meant;
-            let Written::Length(n) = frame::write_frame(address, control, &meant[..count], out)
-            else {
-                return refused(meter, SHORT_MEMORY);
-            };
-            Answered {
-                meter: after,
-                answer: FrameAnswer::Replied(n),
-            }
-        }
-    }
-}
-
 impl Meter {
     // A fresh meter of an address, with its readings; 8 for an address that is not good.
     pub fn fresh(address: [u8; 6]) -> Created
         ensures { λ r. ⌜ r ≡ created address ⌝ }
     {
+        let registers = fresh_registers();
         let meter = Meter {
             address,
             key: false,
             passwords: [0u8; 30],
             operator: [0u8; 4],
-            registers: FRESH_REGISTERS,
+            registers,
         };
         let energies = Energies::new(rows::zero(), rows::zero());
         if !is_good(address) {
@@ -178,17 +98,8 @@ impl Meter {
         ensures { λ r. ⌜ r ≡ withinRanges self forward reverse ⌝ }
     {
         let address = self.address;
-        if !is_good(address) {
-            return false;
-        }
         let registers = self.registers;
-        if !all_decimal(&registers) {
-            return false;
-        }
-        if !rows::in_range(forward) {
-            return false;
-        }
-        rows::in_range(reverse)
+        within_ranges(address, registers, forward, reverse)
     }
 
     // Sets the programming key. Refused with 16.
@@ -220,41 +131,16 @@ impl Meter {
     ) -> Counted
         ensures { λ r. ⌜ r ≡ pulsedBy amount direction rate self forward reverse ⌝ }
     {
-        if !self.is_within_ranges(forward, reverse) {
-            return hand_back(forward, reverse, HostAnswer::Refused(OUT_OF_RANGE));
-        }
-        if 1 < direction {
-            return hand_back(forward, reverse, HostAnswer::Refused(BAD_ARGUMENT));
-        }
-        if !rows::is_rate(rate) {
-            return hand_back(forward, reverse, HostAnswer::Refused(BAD_ARGUMENT));
-        }
-        if direction == 0 {
-            return hand_back(
-                rows::pulsed(forward, amount, rate),
-                reverse,
-                HostAnswer::Done,
-            );
-        }
-        hand_back(
-            forward,
-            rows::pulsed(reverse, amount, rate),
-            HostAnswer::Done,
-        )
+        let within = self.is_within_ranges(forward, reverse);
+        meter_counting::pulse(within, forward, reverse, amount, direction, rate)
     }
 
     // Moves every row of both directions down one and keeps row 0. Refused with 16.
     pub fn settle(self, forward: Rows, reverse: Rows) -> Counted
         ensures { λ r. ⌜ r ≡ settledBy self forward reverse ⌝ }
     {
-        if !self.is_within_ranges(forward, reverse) {
-            return hand_back(forward, reverse, HostAnswer::Refused(OUT_OF_RANGE));
-        }
-        hand_back(
-            rows::settled(forward),
-            rows::settled(reverse),
-            HostAnswer::Done,
-        )
+        let within = self.is_within_ranges(forward, reverse);
+        meter_counting::settle(within, forward, reverse)
     }
 
     // Answers a frame with a reply at the front of the output buffer, which stays as it was beyond it. Refused with 16, 1, 2,
@@ -271,17 +157,6 @@ impl Meter {
         if !frame::is_frame(bytes) {
             return refused(self, NOT_ONE_FRAME);
         }
-        let decided = treat(self, forward, reverse, bytes);
-        deliver(self, decided, out)
-    }
-}
-
-// The readings that a host call hands back.
-fn hand_back(forward: Rows, reverse: Rows, answer: HostAnswer) -> Counted
-    ensures { λ r. ⌜ r ≡ counted forward reverse answer ⌝ }
-{
-    Counted {
-        energies: Energies::new(forward, reverse),
-        answer,
+        treat(self, forward, reverse, bytes, out)
     }
 }

@@ -7,21 +7,24 @@ use mathlib.Core.Logic.{_↔_}
 use native.Mathlib.Omega.{arith}
 use lib.ListN.{length}
 use borrow.Author.Tests.{le-leb, eq-eqb}
-use Rattle.item.specs.Address.{Good, isGood, ShortAddress, isShort}
-use Rattle.item.specs.AddressLaws.{good, is-good, short-address, is-short}
-use Rattle.item.specs.ChecksLaws.{AllHold, all-pass}
+use Rattle.laws.specs.ChecksLaws.{AllHold, all-pass}
+use Rattle.item_decimal.specs.Decimal.{Decimal}
+use Rattle.item_address.specs.Address.{Good, isGood, ShortAddress, isShort}
+use Rattle.item_address.specs.AddressLaws.{good, is-good, short-address, is-short}
 use Rattle.item.specs.ContentLaws.{Range, content-allowed}
-use Rattle.item.specs.Decimal.{Decimal}
 use Rattle.item.specs.Table.{itemOf, otherRows}
 use Rattle.item.specs.TableLaws.{InRows, listed-rule}
 use Rattle.item.specs.declared.table.Item.{Item}
 use Rattle.item.specs.declared.table.Lookup.the-variants.{Listed}
-use Rattle.reader.specs.Allowed.{Sized, requestValue, addressAllowed, valueConditions, conditionsOf, isAdmitted, isAllowed}
-use Rattle.reader.specs.AllowedLaws.{admission-of, content-conditions, admitted-read, admitted-write}
-use Rattle.reader.specs.declared.Action.{Action}
-use Rattle.reader.specs.declared.Action.the-variants.{ReadData, ReadAddress, WriteData}
+use Rattle.reader_judgement.specs.declared.Action.{Action}
+use Rattle.reader_judgement.specs.declared.Action.the-variants.{ReadData, ReadAddress, WriteData}
+use Rattle.reader_allowed.specs.Allowed as parts
+use Rattle.reader_allowed.specs.Allowed.{addressAllowed, isAdmitted}
+use Rattle.reader_allowed.specs.AllowedLaws.{content-conditions}
+use Rattle.reader_allowed.specs.declared.Admission.the-variants.{Allowed, Refused}
+use Rattle.reader.specs.Allowed.{Sized, requestValue, conditionsOf, isAllowed}
+use Rattle.reader.specs.AllowedLaws.{admission-of, admitted-read, admitted-write}
 use Rattle.reader.specs.declared.Request.{Request}
-use Rattle.reader.specs.declared.allowed.Admission.the-variants.{Allowed, Refused}
 
 -- An address that a read may go to: a good one, or a short one.
 pub data Readable (address : List ℕ) : Type 0 where
@@ -102,7 +105,7 @@ module _ (request : Request) (sized : Sized request) where
       }
 
   to-test : (action : Action) → request .action ≡ action → AllowedInWords action request → isAllowed request ≡ true
-  unfolding conditionsOf valueConditions
+  unfolding parts.conditionsOf parts.valueConditions requestValue
   to-test ReadData e w =
       holds-allowed request e (is-readable (request .address) (sized .address) (w .address), rw (w .listed) tt)
   to-test ReadAddress e w = holds-allowed request e tt

@@ -1,15 +1,17 @@
 -- Document 01, "The reader's end": the bytes of a request, and what building one answers.
-use Prim.Native.Nat.{ℕ, _/_, _%_, _≤_}
+use Prim.Native.Nat.{ℕ, _≤_}
 use mathlib.Core.List.{List, [], _∷_, _++_}
 use lib.ListN.{length, replicate}
 use lib.Dec.{leb}
-use Rattle.frame.specs.Memory.{Outcome, outcome, over, pick}
+use Rattle.laws.specs.Memory.{Outcome, outcome, over, pick}
 use Rattle.frame.specs.Refusals.{shortMemory, notAllowed}
-use Rattle.frame.specs.Writing.{frameFor}
-use Rattle.item.specs.Address.{wildcards}
+use Rattle.frame.specs.Frame.{frameFor}
+use Rattle.item_address.specs.Address.{wildcards}
+use Rattle.item_identifier.specs.Identifier.{identifierBytes}
+use Rattle.reader_judgement.specs.Judging.{controlFor}
+use Rattle.reader_judgement.specs.declared.Action.{Action}
+use Rattle.reader_judgement.specs.declared.Action.the-variants.{ReadData, ReadAddress, WriteData}
 use Rattle.reader.specs.Allowed.{requestValue, isAllowed}
-use Rattle.reader.specs.declared.Action.{Action}
-use Rattle.reader.specs.declared.Action.the-variants.{ReadData, ReadAddress, WriteData}
 use Rattle.reader.specs.declared.Request.{Request}
 use Rattle.reader.specs.declared.build.Payload.{Payload}
 use Rattle.reader.specs.declared.Built.{Built}
@@ -18,17 +20,6 @@ use Rattle.reader.specs.declared.Built.the-variants.{Length, Refused}
 -- Four FE.
 abbrev pub wakeUp : List ℕ
 wakeUp = replicate 4 0xFE
-
--- The control code of each action.
-abbrev pub controlFor : Action → ℕ
-controlFor ReadData = 0x11
-controlFor ReadAddress = 0x13
-controlFor WriteData = 0x14
-
--- The identifier's four bytes, DI0 first.
-unfoldable pub identifierBytes : ℕ → List ℕ
-identifierBytes identifier =
-    identifier % 256 ∷ identifier / 256 % 256 ∷ identifier / 65536 % 256 ∷ identifier / 16777216 % 256 ∷ []
 
 -- The address field: six AA to read an address.
 abbrev pub sentTo : Action → List ℕ → List ℕ

@@ -7,25 +7,24 @@ use native.Mathlib.Omega.{arith}
 use lib.ListN.{length, take, drop, replicate, length-append, length-drop}
 use lib.Seq.{take-at, length-take-le}
 use borrow.Author.Tests.{le-leb}
+use Rattle.laws.specs.Memory.{Outcome, outcome, over}
+use Rattle.laws.specs.MemoryLaws.{over-length, lent-over, copied}
 use Rattle.frame.specs.FrameLaws.{frame-for-length}
-use Rattle.frame.specs.Memory.{Outcome, outcome, over}
-use Rattle.frame.specs.MemoryLaws.{over-length, lent-over, copied}
-use Rattle.frame.specs.Writing.{frameFor, writing}
-use Rattle.frame.specs.declared.Written.{Written}
-use Rattle.frame.specs.declared.Written.the-variants as written
+use Rattle.frame.specs.Frame.{frameFor}
+use Rattle.frame_parts.specs.Writing.{writing}
+use Rattle.frame_parts.specs.declared.Written.{Written}
+use Rattle.frame_parts.specs.declared.Written.the-variants as written
+use Rattle.item_identifier.specs.IdentifierLaws.{identifier-four}
+use Rattle.item_identifier.specs.Identifier.{identifierBytes}
+use Rattle.reader_judgement.specs.Judging.{controlFor}
+use Rattle.reader_judgement.specs.declared.Action.{Action}
+use Rattle.reader_judgement.specs.declared.Action.the-variants.{ReadData, ReadAddress, WriteData}
 use Rattle.reader.specs.Allowed.{Sized, requestValue, isAllowed}
 use Rattle.reader.specs.AllowedLaws.{admitted-write}
-use Rattle.reader.specs.Building.{wakeUp, controlFor, identifierBytes, sentTo, sentData, payloadOf, Counts, requestFrame, requestBytes, built}
-use Rattle.reader.specs.declared.Action.{Action}
-use Rattle.reader.specs.declared.Action.the-variants.{ReadData, ReadAddress, WriteData}
+use Rattle.reader.specs.Building.{wakeUp, sentTo, sentData, payloadOf, Counts, requestFrame, requestBytes, built}
 use Rattle.reader.specs.declared.Request.{Request}
 use Rattle.reader.specs.declared.Built.the-variants.{Length}
 use Rattle.reader.specs.declared.build.Payload.{Payload}
-
--- An identifier has four bytes.
-pub identifier-four : (identifier : ℕ) → length (identifierBytes identifier) ≡ 4
-unfolding identifierBytes
-identifier-four identifier = refl
 
 -- The data of a write, part by part.
 pub write-parts : (request : Request)

@@ -1,51 +1,23 @@
 -- Document 01, "The reader's end": a reply is judged against its request.
 use Prim.Native.Nat.{ℕ, _+_, _≤_}
 use mathlib.Core.List.{List, [], _∷_}
-use mathlib.Core.Bool.{Bool, true, false, _&&_, _||_}
-use lib.ListN.{length, getD, take, drop}
-use lib.Dec.{leb, eqb}
-use Rattle.frame.specs.Memory.{Outcome, outcome, over, pick}
-use Rattle.frame.specs.Refusals.{shortMemory, notOneFrame, notAllowed, notAnAnswer, malformed}
+use mathlib.Core.Bool.{Bool}
+use lib.ListN.{length}
+use lib.Dec.{leb}
+use Rattle.laws.specs.Memory.{Outcome, outcome, over}
+use Rattle.laws.specs.Checks.{Check, check, firstFailing}
+use Rattle.frame.specs.Refusals.{shortMemory, notOneFrame, notAllowed, notAnAnswer}
 use Rattle.frame.specs.Frame.{addressOf, controlOf, dataOf}
 use Rattle.frame.specs.Recognition.{exactlyOne}
-use Rattle.item.specs.Address.{isGood, isShort, shortMatches}
-use Rattle.item.specs.Checks.{Check, check, firstFailing}
-use Rattle.item.specs.Decimal.{allDecimal}
-use Rattle.item.specs.Reply.{replyTo}
-use Rattle.item.specs.Same.{same}
-use Rattle.item.specs.Table.{itemOf, hasLength}
+use Rattle.reader_judgement.specs.Judging.{answers, replyValue, verdict}
+use Rattle.reader_judgement.specs.declared.Judgement.{Judgement}
+use Rattle.reader_judgement.specs.declared.Judgement.the-variants.{Value, Error, Refused}
 use Rattle.reader.specs.Allowed.{isAllowed}
-use Rattle.reader.specs.Building.{controlFor, identifierBytes}
-use Rattle.reader.specs.declared.Action.{Action}
-use Rattle.reader.specs.declared.Action.the-variants.{ReadData, ReadAddress, WriteData}
 use Rattle.reader.specs.declared.Request.{Request}
-use Rattle.reader.specs.declared.Judgement.{Judgement}
-use Rattle.reader.specs.declared.Judgement.the-variants.{Value, Error, Refused}
-
--- Whether an action may be answered by an error reply: there is no D3.
-abbrev pub mayFail : Action → Bool
-mayFail ReadData = true
-mayFail ReadAddress = false
-mayFail WriteData = true
-
--- Answering controls are 91 and D1 to 11, 93 to 13, 94 and D4 to 14.
-unfoldable pub isNormal : Action → ℕ → Bool
-isNormal action control = eqb control (replyTo (controlFor action) false)
-
-unfoldable pub isError : Action → ℕ → Bool
-isError action control = mayFail action && eqb control (replyTo (controlFor action) true)
-
--- The reply's address must equal the request's; for a short one it must be good and agree in the low bytes; to 13 any will do.
-unfoldable pub answersFrom : Action → List ℕ → List ℕ → Bool
-answersFrom ReadData address from = pick (isShort address) (isGood from && shortMatches address from) (same from address)
-answersFrom ReadAddress address from = true
-answersFrom WriteData address from = same from address
 
 -- Control and address are an answer to the request.
 unfoldable pub isAnswer : Request → List ℕ → Bool
-isAnswer request bytes =
-    (isNormal (request .action) (controlOf bytes) || isError (request .action) (controlOf bytes))
-    && answersFrom (request .action) (request .address) (addressOf bytes)
+isAnswer request bytes = answers (request .action) (request .address) (controlOf bytes) (addressOf bytes)
 
 -- The checks of every reply, each with the number of the refusal where it fails.
 unfoldable pub firstChecks : Request → List ℕ → List ℕ → List (Check ℕ)
@@ -56,44 +28,7 @@ firstChecks request bytes memory =
     ∷ check (isAnswer request bytes) notAnAnswer
     ∷ []
 
--- The check of an error reply's data.
-unfoldable pub errorChecks : List ℕ → List (Check ℕ)
-errorChecks meant = check (eqb (length meant) 1) malformed ∷ []
-
--- The checks of a normal reply's data. A 93 repeats its own address, a good one.
-unfoldable pub normalChecks : Action → ℕ → List ℕ → List ℕ → List (Check ℕ)
-normalChecks ReadData identifier from meant =
-    check (leb 4 (length meant)) malformed
-    ∷ check (same (take 4 meant) (identifierBytes identifier)) notAnAnswer
-    ∷ check (hasLength (itemOf identifier) (length (drop 4 meant))) malformed
-    ∷ check (allDecimal (drop 4 meant)) malformed
-    ∷ []
-normalChecks ReadAddress identifier from meant =
-    check (eqb (length meant) 6) malformed
-    ∷ check (allDecimal meant) malformed
-    ∷ check (same meant from) malformed
-    ∷ check (isGood from) malformed
-    ∷ []
-normalChecks WriteData identifier from meant =
-    check (eqb (length meant) 0) malformed
-    ∷ []
-
--- The value of a normal reply: its data, the identifier of a 91 removed.
-abbrev pub valueStart : Action → ℕ
-valueStart ReadData = 4
-valueStart ReadAddress = 0
-valueStart WriteData = 0
-
-unfoldable pub replyValue : Action → List ℕ → List ℕ
-replyValue action meant = drop (valueStart action) meant
-
--- A good error reply yields its byte, whichever it is; a good normal reply its value.
-unfoldable pub verdict : Action → ℕ → ℕ → List ℕ → List ℕ → Judgement
-verdict action identifier control from meant =
-    pick (isError action control)
-    (firstFailing Refused (errorChecks meant) (Error (getD meant 0 0)))
-    (firstFailing Refused (normalChecks action identifier from meant) (Value (length (replyValue action meant))))
-
+-- A reply that passes them is judged by its parts.
 unfoldable pub judgementOf : Request → List ℕ → List ℕ → Judgement
 judgementOf request bytes memory =
     firstFailing Refused (firstChecks request bytes memory)

@@ -5,18 +5,18 @@ use mathlib.Core.List.{List}
 use native.Mathlib.Omega.{arith}
 use borrow.Author.Tests.{leb-true, eqb-true}
 use lib.ListN.{length}
-use Rattle.frame.specs.Memory.{outcome}
-use Rattle.frame.specs.MemoryLaws.{pick-cases}
+use Rattle.laws.specs.Memory.{outcome}
+use Rattle.laws.specs.MemoryLaws.{pick-cases}
+use Rattle.laws.specs.Checks.{firstFailing}
+use Rattle.laws.specs.ChecksLaws.{pass-or-any}
 use Rattle.frame.specs.Frame.{dataOf}
-use Rattle.item.specs.Checks.{firstFailing}
-use Rattle.item.specs.ChecksLaws.{pass-or-any}
-use Rattle.reader.specs.Judging.{isError, errorChecks, normalChecks, valueStart, replyValue, verdict}
+use Rattle.reader_judgement.specs.Judging.{isError, errorChecks, normalChecks, valueStart, replyValue, verdict}
+use Rattle.reader_judgement.specs.declared.Action.{Action}
+use Rattle.reader_judgement.specs.declared.Action.the-variants.{ReadData, ReadAddress, WriteData}
+use Rattle.reader_judgement.specs.declared.Judgement.{Judgement}
+use Rattle.reader_judgement.specs.declared.Judgement.the-variants.{Value, Refused}
 use Rattle.reader.specs.Judging.{judgementOf, written, Fits, judged}
-use Rattle.reader.specs.declared.Action.{Action}
-use Rattle.reader.specs.declared.Action.the-variants.{ReadData, ReadAddress, WriteData}
 use Rattle.reader.specs.declared.Request.{Request}
-use Rattle.reader.specs.declared.Judgement.{Judgement}
-use Rattle.reader.specs.declared.Judgement.the-variants.{Value, Refused}
 
 -- Of data that stand in a frame, what is behind the identifier fits into 196 bytes.
 module _ (identifier : ℕ) (from meant m : List ℕ) (few : length meant ≤ 200) (room : 196 ≤ length m) where

@@ -1,31 +1,22 @@
 // The bytes of a request.
-use crate::Action;
 use crate::Request;
-use frame::Written;
-use item::address::WILDCARD;
+use frame_parts::Written;
+use item_address::WILDCARD;
+use item_identifier::identifier_bytes;
+use reader_judgement::Action;
 ghost use mathlib.Core.Path.{_≡_};
 ghost use mathlib.Core.List.{_++_};
 ghost use Prim.Native.Nat.{_+_, _≤_};
 ghost use lib.ListN.{length, take};
-ghost use Rattle.frame.specs.Memory.{outcome, over};
-ghost use Rattle.frame.specs.Writing.{frameFor};
-ghost use Rattle.reader.specs.Building.{wakeUp, controlFor, identifierBytes, sentTo, sentData, payloadOf, Counts};
+ghost use Rattle.laws.specs.Memory.{outcome, over};
+ghost use Rattle.frame.specs.Frame.{frameFor};
+ghost use Rattle.reader.specs.Building.{wakeUp, sentTo, sentData, payloadOf, Counts};
+ghost use Rattle.item_identifier.specs.Identifier.{identifierBytes};
 
 // The data of a request as they are meant: the first `count` of the bytes.
-pub struct Payload {
+pub(crate) struct Payload {
     pub meant: [u8; 50],
     pub count: usize,
-}
-
-// The control code of an action.
-pub(crate) fn control_of(action: Action) -> u8
-    ensures { λ r. ⌜ r ≡ controlFor action ⌝ }
-{
-    match action {
-        Action::ReadData => 0x11,
-        Action::ReadAddress => 0x13,
-        Action::WriteData => 0x14,
-    }
 }
 
 // The address field of a request: six AA to read an address.
@@ -37,17 +28,6 @@ pub(crate) fn sent_to(action: Action, address: [u8; 6]) -> [u8; 6]
         Action::ReadAddress => [WILDCARD; 6],
         Action::WriteData => address,
     }
-}
-
-// An identifier's four bytes, DI0 first.
-pub(crate) fn identifier_bytes(identifier: u32) -> [u8; 4]
-    ensures { λ r. ⌜ r ≡ identifierBytes identifier ⌝ }
-{
-    let di0 = identifier % 256;
-    let di1 = identifier / 256 % 256;
-    let di2 = identifier / 65536 % 256;
-    let di3 = identifier / 16777216 % 256;
-    [di0 as u8, di1 as u8, di2 as u8, di3 as u8]
 }
 
 // The data of a write: identifier, level, password, operator code, value.
@@ -114,8 +94,12 @@ pub(crate) fn write_request(
     out[1] = 0xFE;
     out[2] = 0xFE;
     out[3] = 0xFE;
-    let Written::Length(n) = frame::write_frame(address, control, &meant[..count], &mut out[4..])
-    else {
+    let Written::Length(n) = frame_parts::write_frame(
+        address,
+        control,
+        &meant[..count],
+        &mut out[4..],
+    ) else {
         return 0;
     };
     4 + n

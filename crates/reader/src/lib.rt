@@ -1,43 +1,30 @@
 // The reader's end of DL/T 645-2007: document 01, "The reader's end". One request value is built into bytes for the line, and
 // a reply is judged against the same value.
-mod allowed;
 mod build;
-mod judge;
 
-use allowed::Admission;
-use allowed::admit;
-use build::control_of;
 use build::payload_of;
 use build::sent_to;
 use build::write_request;
-use frame::parts::address_of;
-use frame::parts::data_of;
 use frame::refusal::NOT_ALLOWED;
 use frame::refusal::NOT_AN_ANSWER;
 use frame::refusal::NOT_ONE_FRAME;
 use frame::refusal::SHORT_MEMORY;
-use judge::answers_from;
-use judge::is_error;
-use judge::is_normal;
-use judge::judge_data;
-use judge::value_start;
+use frame_parts::address_of;
+use frame_parts::data_of;
+use reader_allowed::Admission;
+use reader_allowed::admit;
+use reader_judgement::Action;
+use reader_judgement::Judgement;
+use reader_judgement::control_of;
+use reader_judgement::is_answer;
+use reader_judgement::judge_data;
+use reader_judgement::value_start;
 ghost use mathlib.Core.Path.{_≡_};
-ghost use mathlib.Core.Bool.{true};
 ghost use lib.ListN.{drop};
-ghost use Rattle.frame.specs.Memory.{outcome};
-ghost use Rattle.frame.specs.Recognition.{exactlyOne};
+ghost use Rattle.laws.specs.Memory.{outcome};
+ghost use Rattle.reader.specs.Allowed.{admission};
 ghost use Rattle.reader.specs.Building.{built};
-ghost use Rattle.reader.specs.Judging.{isAnswer, Fits, written, judged};
-
-// What a request asks for.
-pub enum Action {
-    // 11
-    ReadData,
-    // 13
-    ReadAddress,
-    // 14
-    WriteData,
-}
+ghost use Rattle.reader.specs.Judging.{Fits, written, judged};
 
 // A request. What its action does not use is ignored.
 pub struct Request {
@@ -62,30 +49,21 @@ pub enum Built {
     Refused(u8),
 }
 
-// The answer to the judging of a reply.
-pub enum Judgement {
-    // The length of the value that stands at the front of the output buffer: 0 for a write that was accepted.
-    Value(usize),
-    // The byte of an error reply; nothing written.
-    Error(u8),
-    // A refusal, by document 01's number: nothing written.
-    Refused(u8),
-}
-
-// Whether a frame's control and address are an answer to a request.
-fn is_answer(request: Request, bytes: &[u8]) -> bool
-    requires { ⌜ exactlyOne (now bytes) ≡ true ⌝ }
-    ensures { λ r. ⌜ r ≡ isAnswer request (now (bytes .entry)) ⌝ }
+// Whether a request is allowed, and if not, the first cause.
+fn admission_of(request: Request) -> Admission
+    ensures { λ r. ⌜ r ≡ admission request ⌝ }
 {
     let action = request.action;
-    let control = bytes[8];
-    if !is_normal(action, control) {
-        if !is_error(action, control) {
-            return false;
-        }
-    }
     let address = request.address;
-    answers_from(action, address, address_of(bytes))
+    let value = request.value;
+    admit(
+        action,
+        address,
+        request.identifier,
+        request.level,
+        value,
+        request.count,
+    )
 }
 
 // Writes the value of a good reply to the front of the output buffer.
@@ -112,7 +90,7 @@ impl Request {
         if out.len() < 66 {
             return Built::Refused(SHORT_MEMORY);
         }
-        let Admission::Allowed = admit(self) else {
+        let Admission::Allowed = admission_of(self) else {
             return Built::Refused(NOT_ALLOWED);
         };
         let action = self.action;
@@ -134,20 +112,22 @@ impl Request {
         if out.len() < 196 {
             return Judgement::Refused(SHORT_MEMORY);
         }
-        let Admission::Allowed = admit(self) else {
+        let Admission::Allowed = admission_of(self) else {
             return Judgement::Refused(NOT_ALLOWED);
         };
         if !frame::is_frame(bytes) {
             return Judgement::Refused(NOT_ONE_FRAME);
         }
-        if !is_answer(self, bytes) {
+        let action = self.action;
+        let address = self.address;
+        let control = bytes[8];
+        let from = address_of(bytes);
+        if !is_answer(action, address, control, from) {
             return Judgement::Refused(NOT_AN_ANSWER);
         }
-        let action = self.action;
         let meant = data_of(bytes);
         let length = bytes[9] as usize;
-        let from = address_of(bytes);
-        let decided = judge_data(action, self.identifier, bytes[8], from, &meant[..length]);
+        let decided = judge_data(action, self.identifier, control, from, &meant[..length]);
         deliver(decided, value_start(action), &meant[..length], out)
     }
 }

@@ -3,10 +3,10 @@ use Prim.Native.Nat.{ℕ, _-_, _^_}
 use mathlib.Core.List.{List, [], _∷_, _++_, map}
 use lib.ListN.{length}
 use lib.Dec.{leb}
-use Rattle.frame.specs.Memory.{Outcome, outcome, over, pick}
-use Rattle.line.specs.Line.{byte, silence}
-use Rattle.line.specs.Places.{joined}
-use Rattle.line.specs.Scan.{scan}
+use Rattle.laws.specs.Memory.{Outcome, outcome, over, pick}
+use Rattle.line_terms.specs.Line.{byte, silence}
+use Rattle.line_terms.specs.Places.{joined}
+use Rattle.line_terms.specs.Scan.{scan}
 
 -- The frames of the bytes with a silence behind them, joined.
 unfoldable pub framesIn : List ℕ → List ℕ

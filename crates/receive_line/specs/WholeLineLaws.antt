@@ -9,12 +9,12 @@ use lib.Seq.{take-all, take-at, take-suc, length-take-le}
 use lib.Dec.{leb}
 use mathlib.Core.Bool.{Bool, true, false}
 use borrow.Author.Tests.{le-leb, lt-leb}
-use Rattle.frame.specs.Memory.{Outcome, outcome, over, pick}
-use Rattle.frame.specs.MemoryLaws.{over-length, over-over, over-itself, lent-over}
-use Rattle.line.specs.Line.{Symbol, byte, silence}
-use Rattle.line.specs.Places.{joined}
-use Rattle.line.specs.Scan.{scan}
-use Rattle.line.specs.FramesFew.{bytesIn, bytes-in, bytes-in-closed, frames-few}
+use Rattle.laws.specs.Memory.{Outcome, outcome, over, pick}
+use Rattle.laws.specs.MemoryLaws.{over-length, over-over, over-itself, lent-over}
+use Rattle.line_terms.specs.Line.{Symbol, byte, silence}
+use Rattle.line_terms.specs.Places.{joined}
+use Rattle.line_terms.specs.Scan.{scan}
+use Rattle.line_terms.specs.FramesFew.{bytesIn, bytes-in, bytes-in-closed, frames-few}
 use Rattle.line.specs.Receiver.{fresh, called}
 use Rattle.line.specs.CallLaws.{HasReceived, fresh-received, newFrames, Answers, ignores, delivers, answers, after-one}
 use Rattle.line.specs.declared.Receiver.{Receiver}

@@ -8,8 +8,8 @@ ghost use mathlib.Core.Path.{_≡_};
 ghost use mathlib.Core.List.{_++_, map};
 ghost use Prim.Native.Nat.{_+_, _≤_};
 ghost use lib.ListN.{length, take};
-ghost use Rattle.frame.specs.Memory.{outcome, over};
-ghost use Rattle.line.specs.Line.{byte};
+ghost use Rattle.laws.specs.Memory.{outcome, over};
+ghost use Rattle.line_terms.specs.Line.{byte};
 ghost use Rattle.receive_line.specs.WholeLine.{receivedLine};
 ghost use Rattle.receive_line.specs.WholeLineLaws.{Receiving};
 

@@ -4,10 +4,10 @@ use mathlib.Core.List.{List}
 use mathlib.Core.Bool.{Bool}
 use lib.ListN.{length}
 use lib.Dec.{leb}
-use Rattle.frame.specs.Memory.{Outcome, outcome, over, pick}
+use Rattle.laws.specs.Memory.{Outcome, outcome, over, pick}
 use Rattle.frame.specs.Refusals.{shortMemory}
-use Rattle.line.specs.Places.{joined}
-use Rattle.line.specs.Scan.{Reading}
+use Rattle.line_terms.specs.Places.{joined}
+use Rattle.line_terms.specs.Scan.{Reading}
 use Rattle.line.specs.Drain.{readingFrom}
 use Rattle.recording.specs.declared.BlockAnswer.{BlockAnswer}
 use Rattle.recording.specs.declared.BlockAnswer.the-variants.{Refused, Delivered}

@@ -8,13 +8,13 @@ use lib.ListN.{length, take, length-take, length-drop}
 use lib.Seq.{take-at}
 use lib.Dec.{leb}
 use borrow.Author.Tests.{le-leb, lt-leb, leb-true, leb-false}
-use Rattle.frame.specs.Memory.{Outcome, outcome, over}
-use Rattle.frame.specs.MemoryLaws.{pick-cases}
+use Rattle.laws.specs.Memory.{Outcome, outcome, over}
+use Rattle.laws.specs.MemoryLaws.{pick-cases}
 use Rattle.frame.specs.RecognitionLaws.{open-most}
-use Rattle.line.specs.Line.{byte, silence}
-use Rattle.line.specs.Places.{joined}
-use Rattle.line.specs.ScanLaws.{scan-kept-open}
-use Rattle.line.specs.FramesFew.{bytes-in, bytes-in-closed, frames-few}
+use Rattle.line_terms.specs.Line.{byte, silence}
+use Rattle.line_terms.specs.Places.{joined}
+use Rattle.line_terms.specs.ScanLaws.{scan-kept-open}
+use Rattle.line_terms.specs.FramesFew.{bytes-in, bytes-in-closed, frames-few}
 use Rattle.line.specs.Drain.{symbols, readingFrom, Drains}
 use Rattle.recording.specs.Block.{blockReading, delivered, blockRead}
 use Rattle.recording.specs.declared.BlockAnswer.{BlockAnswer}

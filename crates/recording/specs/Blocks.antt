@@ -8,10 +8,10 @@ use mathlib.Core.Bool.{Bool, true, false, _||_, or-false}
 use mathlib.Core.List.{List, [], _∷_, _++_, map, append-nil, append-assoc}
 use lib.ListN.{length, take, drop}
 use lib.Seq.{take-append-seam}
-use Rattle.frame.specs.Memory.{Outcome, outcome, over}
-use Rattle.line.specs.Line.{byte}
-use Rattle.line.specs.Places.{joined}
-use Rattle.line.specs.Scan.{Reading, scan}
+use Rattle.laws.specs.Memory.{Outcome, outcome, over}
+use Rattle.line_terms.specs.Line.{byte}
+use Rattle.line_terms.specs.Places.{joined}
+use Rattle.line_terms.specs.Scan.{Reading, scan}
 use Rattle.line.specs.Demand3.{Exactly}
 use Rattle.line.specs.Drain.{symbols}
 use Rattle.recording.specs.Block.{blockReading, delivered, blockRead}

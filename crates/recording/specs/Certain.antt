@@ -8,17 +8,17 @@ use mathlib.Core.Bool.{Bool, true, false}
 use mathlib.Core.List.{List, [], _++_, map, List·Memᴰ}
 use lib.ListN.{length, drop}
 use Rattle.frame.specs.Frame.{Frame}
-use Rattle.frame.specs.Memory.{Outcome, outcome, over}
+use Rattle.laws.specs.Memory.{Outcome, outcome, over}
 use Rattle.frame.specs.Recognition.{recognised}
 use Rattle.frame.specs.declared.Recognised.the-variants.{Open}
-use Rattle.line.specs.Line.{Symbol, byte, Choice, Keeps, Certain}
-use Rattle.line.specs.Places.{joined}
-use Rattle.line.specs.Scan.{Reading, scan}
-use Rattle.line.specs.Reading.{OneChoice, one-choice}
-use Rattle.line.specs.ScanLaws.{scan-rising, scan-kept-open}
-use Rattle.line.specs.FoundFrames.{AllFrames, each-frame}
-use Rattle.line.specs.ScanCertain.{found-certain, certain-found}
-use Rattle.line.specs.Closed.{taken-found}
+use Rattle.line_terms.specs.Line.{Symbol, byte, Choice, Keeps, Certain}
+use Rattle.line_terms.specs.Places.{joined}
+use Rattle.line_terms.specs.Scan.{Reading, scan}
+use Rattle.line_terms.specs.Reading.{OneChoice, one-choice}
+use Rattle.line_terms.specs.ScanLaws.{scan-rising, scan-kept-open}
+use Rattle.line_terms.specs.FoundFrames.{AllFrames, each-frame}
+use Rattle.line_terms.specs.ScanCertain.{found-certain, certain-found}
+use Rattle.line_terms.specs.Closed.{taken-found}
 use Rattle.line.specs.Demand3.{Exactly}
 use Rattle.line.specs.Drain.{symbols, readingFrom}
 use Rattle.recording.specs.Block.{blockReading, delivered, blockRead}

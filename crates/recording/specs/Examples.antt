@@ -3,12 +3,12 @@ use mathlib.Core.Path.{_≡_, refl}
 use mathlib.Core.Bool.{true, false}
 use mathlib.Core.List.{[], _∷_, _++_}
 use lib.ListN.{take, replicate}
-use Rattle.frame.specs.Memory.{outcome}
+use Rattle.laws.specs.Memory.{outcome}
 use Rattle.frame.specs.Frame.{total, checksumOf, lengthOf}
 use Rattle.frame.specs.Recognition.{recognised, recognisedBody, recognisedEnd}
 use Rattle.frame.specs.Examples.{caseA}
-use Rattle.line.specs.Places.{joined}
-use Rattle.line.specs.Scan.{scan, readingBy, before, begins, settled, broken, bytesBefore}
+use Rattle.line_terms.specs.Places.{joined}
+use Rattle.line_terms.specs.Scan.{scan, readingBy, before, begins, settled, broken, bytesBefore}
 use Rattle.line.specs.Drain.{symbols, readingFrom}
 use Rattle.recording.specs.Block.{blockReading, delivered, blockRead}
 use Rattle.recording.specs.declared.BlockAnswer.the-variants.{Refused, Delivered}

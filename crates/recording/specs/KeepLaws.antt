@@ -8,8 +8,8 @@ use lib.Seq.{getD-drop, getD-take, length-take-le}
 use lib.Dec.{leb}
 use borrow.Author.Tests.{le-leb, lt-leb, leb-true}
 use Rattle.bytes.specs.Bytes.{slice}
-use Rattle.frame.specs.Memory.{Outcome, outcome, over}
-use Rattle.frame.specs.MemoryLaws.{Mapping, mapping-start, mapping-next, mapping-end, over-behind, pick-cases}
+use Rattle.laws.specs.Memory.{Outcome, outcome, over}
+use Rattle.laws.specs.MemoryLaws.{Mapping, mapping-start, mapping-next, mapping-end, over-behind, pick-cases}
 use Rattle.recording.specs.Rest.{restKept}
 
 -- A byte as it is.

@@ -4,11 +4,11 @@ use mathlib.Core.Path.{_≡_, ap}
 use mathlib.Core.Bool.{Bool, true, false}
 use mathlib.Core.List.{List, _++_, map, map-append, append-assoc}
 use lib.ListN.{length, length-append}
-use Rattle.line.specs.Line.{byte}
-use Rattle.line.specs.Places.{joined}
-use Rattle.line.specs.PlaceLaws.{joined-append}
-use Rattle.line.specs.Scan.{scan}
-use Rattle.line.specs.ScanLaws.{More, more, place-joined, place-count, place-kept}
+use Rattle.line_terms.specs.Line.{byte}
+use Rattle.line_terms.specs.Places.{joined}
+use Rattle.line_terms.specs.PlaceLaws.{joined-append}
+use Rattle.line_terms.specs.Scan.{scan}
+use Rattle.line_terms.specs.ScanLaws.{More, more, place-joined, place-count, place-kept}
 use Rattle.line.specs.Drain.{symbols, readingFrom}
 use Rattle.recording.specs.Block.{blockReading}
 

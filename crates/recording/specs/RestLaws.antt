@@ -7,10 +7,10 @@ use mathlib.Core.Bool.{Bool, true, false}
 use mathlib.Core.List.{List, [], _∷_, _++_, map}
 use lib.ListN.{length, drop, length-drop, length-map}
 use lib.Seq.{drop-length}
-use Rattle.line.specs.Line.{Symbol, byte, silence}
-use Rattle.line.specs.Scan.{Reading, bytesBefore, before, scan}
-use Rattle.line.specs.BeginsLaws.{begins-open, unbroken}
-use Rattle.line.specs.ScanLaws.{Scans, ends, covered, finds, stops, drops, scans}
+use Rattle.line_terms.specs.Line.{Symbol, byte, silence}
+use Rattle.line_terms.specs.Scan.{Reading, bytesBefore, before, scan}
+use Rattle.line_terms.specs.BeginsLaws.{begins-open, unbroken}
+use Rattle.line_terms.specs.ScanLaws.{Scans, ends, covered, finds, stops, drops, scans}
 use Rattle.line.specs.Drain.{symbols, readingFrom}
 use Rattle.line.specs.DrainLaws.{reading-closed}
 use Rattle.recording.specs.Block.{blockReading}

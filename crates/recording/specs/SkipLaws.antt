@@ -13,7 +13,7 @@ use Rattle.bytes.specs.Bytes.{slice, indexOf, indexAfter}
 use Rattle.frame.specs.Recognition.{recognised}
 use Rattle.frame.specs.RecognitionLaws.{other-start}
 use Rattle.frame.specs.declared.Recognised.the-variants.{Neither}
-use Rattle.line.specs.Scan.{settled}
+use Rattle.line_terms.specs.Scan.{settled}
 use Rattle.line.specs.DrainLaws.{Draining, draining-next}
 use Rattle.recording.specs.Skip.{Passes}
 

@@ -9,7 +9,7 @@ use frame::refusal::SHORT_MEMORY;
 ghost use mathlib.Core.Path.{_≡_};
 ghost use Prim.Native.Nat.{_≤_};
 ghost use lib.ListN.{length};
-ghost use Rattle.frame.specs.Memory.{outcome};
+ghost use Rattle.laws.specs.Memory.{outcome};
 ghost use Rattle.recording.specs.Block.{blockRead};
 
 // The answer to the reading of a block.

@@ -3,7 +3,7 @@ ghost use mathlib.Core.Path.{_≡_};
 ghost use Prim.Native.Nat.{_≤_};
 ghost use lib.ListN.{length};
 ghost use Rattle.bytes.specs.Bytes.{slice};
-ghost use Rattle.frame.specs.Memory.{outcome, over};
+ghost use Rattle.laws.specs.Memory.{outcome, over};
 ghost use Rattle.recording.specs.Rest.{restKept};
 
 // Moves the bytes from `rest` up to `end` to the front.

@@ -4,9 +4,9 @@ use mathlib.Core.Path.{sym, ap, subst}
 use borrow.Author.Needs.{needs}
 use lib.ListN.{length}
 use lib.Seq.{length-take-le}
-use Rattle.frame.specs.Memory.{Outcome, outcome}
+use Rattle.laws.specs.Memory.{Outcome, outcome}
 use Rattle.meter.specs.declared.FrameAnswer.{FrameAnswer}
-use Rattle.reader.specs.declared.Judgement.{Judgement}
+use Rattle.reader_judgement.specs.declared.Judgement.{Judgement}
 use Rattle.exchange.specs.Exchange.{WithinReply, exchangedWith, concluded}
 use Rattle.exchange.specs.declared.ExchangeAnswer.the-variants.{Judged}
 use Rattle.exchange.proofs.conclude.Statement.{statement}
@@ -19,24 +19,12 @@ start-of c = c .before .before .before .before .before
 within : (c : tie.After-answer2) → c .answer2 .given .0 .0 ≤ length (start-of c .args .reply .now)
 within c = subst (λ (answer : FrameAnswer). WithinReply answer (start-of c .args .reply .now)) (c .answer2 .given .1) (start-of c .pre)
 
-enum-known-answer : tie.Need-enum-known-answer
-enum-known-answer c = search needs
-
-enum-known-answer-2 : tie.Need-enum-known-answer-2
-enum-known-answer-2 c = search needs
-
 slice-aggregate-judge : tie.Need-slice-aggregate-judge
 slice-aggregate-judge c = sym (length-take-le _ _ (within (c .before .before)))
-
-judge-requires : tie.Need-judge-requires
-judge-requires c κs = search needs
 
 returns : tie.Need-returns
 unfolding concluded
 returns c = rw (c .before .answer .given .1)
-
-same-length : tie.Need-same-length
-same-length c = search needs
 
 returns-2 : tie.Need-returns-2
 unfolding concluded
@@ -53,10 +41,10 @@ pub conclude-spec : {M : Type 1} → statement M
 conclude-spec =
     tie.close
     (tie.spec
-    enum-known-answer
-    enum-known-answer-2
+    (λ c. search needs)
+    (λ c. search needs)
     slice-aggregate-judge
-    judge-requires
+    (λ c κs. search needs)
     returns
-    same-length
+    (λ c. search needs)
     returns-2)

@@ -6,7 +6,7 @@ use borrow.Author.Needs.{needs}
 use borrow.Author.Tests.{not-true, not-false}
 use lib.ListN.{length, take}
 use lib.Seq.{length-take-le}
-use Rattle.frame.specs.Memory.{outcome}
+use Rattle.laws.specs.Memory.{outcome}
 use Rattle.meter.specs.Meter as meter
 use Rattle.meter.specs.Answer.{answered}
 use Rattle.reader.specs.Allowed.{isAllowed}
@@ -14,8 +14,7 @@ use Rattle.reader.specs.Building.{requestFrame, requestBytes}
 use Rattle.reader.specs.Allowed as reader
 use Rattle.exchange.specs.Exchange.{Memories, memories, enough, exchanged}
 use Rattle.exchange.specs.EndToEnd.{EnoughMemory}
-use Rattle.exchange.specs.ExchangeLaws.{enough-memory, Puts, front-within, front-put, built-puts, built-refuses, request-woken, heard-puts}
-use Rattle.exchange.specs.ExchangeLaws.{reply-within, carried-through}
+use Rattle.exchange.specs.ExchangeLaws.{enough-memory, Puts, front-within, front-put, built-puts, built-refuses, request-woken, heard-puts, reply-within, carried-through}
 use Rattle.exchange.proofs.exchange.Statement.{statement}
 use Rattle.exchange.proofs.exchange.Tie as tie
 
@@ -88,42 +87,15 @@ answers c = rw (front-put (hears (heard-of c))) at (c .answer .ensures)
 sent-kept : (c : tie.After-build) → length (c .build .last .1 .0) ≡ length (entry c .args .sent .now)
 sent-kept c = search needs
 
-is-within-ranges-requires : tie.Need-is-within-ranges-requires
-is-within-ranges-requires c κs = search needs
-
-refused-requires : tie.Need-refused-requires
-refused-requires c κs = search needs
-
 returns : tie.Need-returns
 unfolding exchanged
 returns c = rw (sym (c .before .before .is-within-ranges .ensures) ∙ not-true _ (c .before .if1 .taken), c .refused .ensures)
-
-is-enough-requires : tie.Need-is-enough-requires
-is-enough-requires c κs = search needs
-
-refused-requires-2 : tie.Need-refused-requires-2
-refused-requires-2 c κs = search needs
 
 returns-2 : tie.Need-returns-2
 unfolding exchanged
 returns-2 c =
     let at-test = c .before .before in
     rw (ranges (at-test .before), sym (at-test .is-enough .ensures) ∙ not-true _ (c .before .if2 .taken), c .refused2 .ensures)
-
-build-requires : tie.Need-build-requires
-build-requires c κs = search needs
-
-enum-known-n : tie.Need-enum-known-n
-enum-known-n c = search needs
-
-enum-told : tie.Need-enum-told
-enum-told c = search needs
-
-refused-requires-3 : tie.Need-refused-requires-3
-refused-requires-3 c κs = search needs
-
-same-length : tie.Need-same-length
-same-length c = search needs
 
 returns-3 : tie.Need-returns-3
 unfolding exchanged
@@ -150,9 +122,6 @@ slice-reshare-prefix-answer c = front-within (hears (c .before .before))
 slice-aggregate-answer : tie.Need-slice-aggregate-answer
 slice-aggregate-answer c = sym (length-take-le _ _ (front-within (hears (c .before .before .before))))
 
-answer-requires : tie.Need-answer-requires
-answer-requires c κs = search needs
-
 conclude-requires : tie.Need-conclude-requires
 conclude-requires c κs =
     let a = c .before .before .before .before in
@@ -160,15 +129,6 @@ conclude-requires c κs =
 
 same-length-2 : tie.Need-same-length-2
 same-length-2 c = sent-kept (built-of (sent-of (heard-of (c .before .before .before .before .before .before .before))))
-
-same-length-3 : tie.Need-same-length-3
-same-length-3 c = search needs
-
-same-length-4 : tie.Need-same-length-4
-same-length-4 c = search needs
-
-same-length-5 : tie.Need-same-length-5
-same-length-5 c = search needs
 
 returns-4 : tie.Need-returns-4
 unfolding exchanged
@@ -186,27 +146,27 @@ pub exchange-spec : {M : Type 1} → statement M
 exchange-spec =
     tie.close
     (tie.spec
-    is-within-ranges-requires
-    refused-requires
+    (λ c κs. search needs)
+    (λ c κs. search needs)
     returns
-    is-enough-requires
-    refused-requires-2
+    (λ c κs. search needs)
+    (λ c κs. search needs)
     returns-2
-    build-requires
-    enum-known-n
-    enum-told
-    refused-requires-3
-    same-length
+    (λ c κs. search needs)
+    (λ c. search needs)
+    (λ c. search needs)
+    (λ c κs. search needs)
+    (λ c. search needs)
     returns-3
     slice-reshare-prefix-hear
     slice-aggregate-hear
     hear-requires
     slice-reshare-prefix-answer
     slice-aggregate-answer
-    answer-requires
+    (λ c κs. search needs)
     conclude-requires
     same-length-2
-    same-length-3
-    same-length-4
-    same-length-5
+    (λ c. search needs)
+    (λ c. search needs)
+    (λ c. search needs)
     returns-4)

@@ -7,18 +7,6 @@ use Rattle.frame.specs.declared.Recognised.{Recognised}
 use Rattle.frame.proofs.is_frame.Statement.{statement}
 use Rattle.frame.proofs.is_frame.Tie as tie
 
-recognise-requires : tie.Need-recognise-requires
-recognise-requires c κs = search needs
-
-enum-known-found : tie.Need-enum-known-found
-enum-known-found c = search needs
-
-enum-told : tie.Need-enum-told
-enum-told c = search needs
-
-enum-told-2 : tie.Need-enum-told-2
-enum-told-2 c = search needs
-
 -- the answer by what was found
 answer : (c : tie.After-recognise) (r : Recognised) → c .recognise .result ≡ r → isAll r (length (c .before .before .args .bytes .now)) ≡ exactlyOne (c .before .before .args .bytes .now)
 unfolding exactlyOne
@@ -40,10 +28,10 @@ pub is-frame-spec : {M : Type 1} → statement M
 is-frame-spec =
     tie.close
     (tie.spec
-    recognise-requires
-    enum-known-found
-    enum-told
-    enum-told-2
+    (λ c κs. search needs)
+    (λ c. search needs)
+    (λ c. search needs)
+    (λ c. search needs)
     returns
     returns-2
     returns-3)

@@ -18,9 +18,6 @@ returns c = simp (le-leb (length (c .before .before .args .bytes .now)) 0 (omega
 begun : (c : tie.Else1) → leb (length (c .before .before .args .bytes .now)) 0 ≡ false
 begun c = lt-leb (length (c .before .before .args .bytes .now)) 0 (omega arith)
 
-shared-slice-read-if2 : tie.Need-shared-slice-read-if2
-shared-slice-read-if2 c = search needs
-
 returns-2 : tie.Need-returns-2
 unfolding recognised
 returns-2 c = simp (begun (c .before .before), ne-eqb _ _ (c .if2 .taken))
@@ -29,17 +26,11 @@ returns-3 : tie.Need-returns-3
 unfolding recognised
 returns-3 c = simp (begun (c .before .before .before), eq-eqb _ _ (c .before .if2 .left), le-leb _ _ (c .if3 .taken))
 
-shared-slice-read-if4 : tie.Need-shared-slice-read-if4
-shared-slice-read-if4 c = search needs
-
 returns-4 : tie.Need-returns-4
 unfolding recognised
 returns-4 c =
     let at-if3 = c .before .before in
     simp (begun (at-if3 .before .before .before), eq-eqb _ _ (at-if3 .before .if2 .left), lt-leb _ _ (at-if3 .if3 .left), ne-eqb _ _ (c .if4 .taken))
-
-recognise-body-requires : tie.Need-recognise-body-requires
-recognise-body-requires c κs = search needs
 
 returns-5 : tie.Need-returns-5
 unfolding recognised
@@ -57,10 +48,10 @@ recognise-spec =
     tie.close
     (tie.spec
     returns
-    shared-slice-read-if2
+    (λ c. search needs)
     returns-2
     returns-3
-    shared-slice-read-if4
+    (λ c. search needs)
     returns-4
-    recognise-body-requires
+    (λ c κs. search needs)
     returns-5)

@@ -20,9 +20,6 @@ returns : tie.Need-returns
 unfolding recognisedBody
 returns c = simp (le-leb (length (c .before .before .args .bytes .now)) 9 (c .if1 .taken))
 
-shared-slice-read-data-length : tie.Need-shared-slice-read-data-length
-shared-slice-read-data-length c = search needs
-
 -- past the first test there is a data length
 ten : (c : tie.Else1) → leb (length (c .before .before .args .bytes .now)) 9 ≡ false
 ten c = lt-leb (length (c .before .before .args .bytes .now)) 9 (omega arith)
@@ -39,24 +36,9 @@ few c =
     let most : getD (c .before .before .before .before .args .bytes .now) 9 0 ≤ 200 = omega arith in
     le-leb _ _ most
 
-cast-end : tie.Need-cast-end
-cast-end c = search needs
-
-add-end : tie.Need-add-end
-add-end c = search needs
-
 returns-3 : tie.Need-returns-3
 unfolding recognisedBody recognisedEnd lengthOf
 returns-3 c = simp (ten (c .before .before .before), few (c .before), le-leb _ _ (c .if3 .taken))
-
-add-if4 : tie.Need-add-if4
-add-if4 c = search needs
-
-add-if5 : tie.Need-add-if5
-add-if5 c = search needs
-
-shared-slice-read-if5 : tie.Need-shared-slice-read-if5
-shared-slice-read-if5 c = search needs
 
 returns-4 : tie.Need-returns-4
 unfolding recognisedBody lengthOf
@@ -66,12 +48,6 @@ returns-4 c =
 
 slice-aggregate-checksum : tie.Need-slice-aggregate-checksum
 slice-aggregate-checksum c = sym (length-take-le _ _ (omega arith))
-
-checksum-requires : tie.Need-checksum-requires
-checksum-requires c κs = search needs
-
-shared-slice-read-sent : tie.Need-shared-slice-read-sent
-shared-slice-read-sent c = search needs
 
 -- the checksum as it was tested: wrong, or right
 wrong : (c : tie.Then6) →
@@ -89,9 +65,6 @@ unfolding recognisedBody recognisedEnd lengthOf
 returns-5 c =
     let at-if3 = c .before .before .before .before .before in
     simp (ten (at-if3 .before .before .before), few (at-if3 .before), lt-leb _ _ (at-if3 .if3 .left), ne-eqb _ _ (wrong c))
-
-add-if7 : tie.Need-add-if7
-add-if7 c = search needs
 
 returns-6 : tie.Need-returns-6
 unfolding recognisedBody recognisedEnd lengthOf
@@ -113,9 +86,6 @@ last c =
     ⊎-elim (λ w. w .2 .left) (λ w. let no : ⊥ = omega arith in absurd no)
     (c .before .before .before .before .before .if4 .came)
 
-add-t10 : tie.Need-add-t10
-add-t10 c = search needs
-
 returns-7 : tie.Need-returns-7
 unfolding recognisedBody recognisedEnd lengthOf
 returns-7 c =
@@ -134,20 +104,20 @@ recognise-body-spec =
     tie.close
     (tie.spec
     returns
-    shared-slice-read-data-length
+    (λ c. search needs)
     returns-2
-    cast-end
-    add-end
+    (λ c. search needs)
+    (λ c. search needs)
     returns-3
-    add-if4
-    add-if5
-    shared-slice-read-if5
+    (λ c. search needs)
+    (λ c. search needs)
+    (λ c. search needs)
     returns-4
     slice-aggregate-checksum
-    checksum-requires
-    shared-slice-read-sent
+    (λ c κs. search needs)
+    (λ c. search needs)
     returns-5
-    add-if7
+    (λ c. search needs)
     returns-6
-    add-t10
+    (λ c. search needs)
     returns-7)

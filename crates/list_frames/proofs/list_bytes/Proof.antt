@@ -42,77 +42,14 @@ rest-most c =
     let s = entry (listed-of c) in
     omega (arith, listed-within (answered c) .most, length-take-le (s .args .n) (s .args .block .now) (s .pre))
 
-slice-reshare-prefix-list-block : tie.Need-slice-reshare-prefix-list-block
-slice-reshare-prefix-list-block c = search needs
-
 slice-aggregate-list-block : tie.Need-slice-aggregate-list-block
 slice-aggregate-list-block c = sym (length-take-le _ _ (omega arith))
-
-list-block-requires : tie.Need-list-block-requires
-list-block-requires c κs = search needs
-
-enum-known-listed : tie.Need-enum-known-listed
-enum-known-listed c = search needs
-
-enum-told : tie.Need-enum-told
-enum-told c = search needs
-
-say-unwritten-requires : tie.Need-say-unwritten-requires
-say-unwritten-requires c κs = search needs
-
-stopped-requires : tie.Need-stopped-requires
-stopped-requires c κs = search needs
-
-same-length : tie.Need-same-length
-same-length c = search needs
-
-same-length-2 : tie.Need-same-length-2
-same-length-2 c = search needs
-
-same-length-3 : tie.Need-same-length-3
-same-length-3 c = search needs
-
-returns : tie.Need-returns
-returns c = search needs
 
 slice-reshare-prefix-write-all : tie.Need-slice-reshare-prefix-write-all
 slice-reshare-prefix-write-all c = text-within c
 
 slice-aggregate-write-all : tie.Need-slice-aggregate-write-all
 slice-aggregate-write-all c = sym (length-take-le _ _ (text-within (c .before)))
-
-write-all-requires : tie.Need-write-all-requires
-write-all-requires c κs = search needs
-
-say-unwritten-requires-2 : tie.Need-say-unwritten-requires-2
-say-unwritten-requires-2 c κs = search needs
-
-stopped-requires-2 : tie.Need-stopped-requires-2
-stopped-requires-2 c κs = search needs
-
-same-length-4 : tie.Need-same-length-4
-same-length-4 c = search needs
-
-same-length-5 : tie.Need-same-length-5
-same-length-5 c = search needs
-
-same-length-6 : tie.Need-same-length-6
-same-length-6 c = search needs
-
-returns-2 : tie.Need-returns-2
-returns-2 c = search needs
-
-keep-rest-requires : tie.Need-keep-rest-requires
-keep-rest-requires c κs = search needs
-
-same-length-7 : tie.Need-same-length-7
-same-length-7 c = search needs
-
-same-length-8 : tie.Need-same-length-8
-same-length-8 c = search needs
-
-same-length-9 : tie.Need-same-length-9
-same-length-9 c = search needs
 
 returns-3 : tie.Need-returns-3
 returns-3 c = omega (arith, kept-few _ _ _ (c .before .before .keep-rest .ensures), rest-most (c .before .before .before .before .before .before .before))
@@ -121,28 +58,28 @@ pub list-bytes-spec : {M : Type 1} → statement M
 list-bytes-spec =
     tie.close
     (tie.spec
-    slice-reshare-prefix-list-block
+    (λ c. search needs)
     slice-aggregate-list-block
-    list-block-requires
-    enum-known-listed
-    enum-told
-    say-unwritten-requires
-    stopped-requires
-    same-length
-    same-length-2
-    same-length-3
-    returns
+    (λ c κs. search needs)
+    (λ c. search needs)
+    (λ c. search needs)
+    (λ c κs. search needs)
+    (λ c κs. search needs)
+    (λ c. search needs)
+    (λ c. search needs)
+    (λ c. search needs)
+    (λ c. search needs)
     slice-reshare-prefix-write-all
     slice-aggregate-write-all
-    write-all-requires
-    say-unwritten-requires-2
-    stopped-requires-2
-    same-length-4
-    same-length-5
-    same-length-6
-    returns-2
-    keep-rest-requires
-    same-length-7
-    same-length-8
-    same-length-9
+    (λ c κs. search needs)
+    (λ c κs. search needs)
+    (λ c κs. search needs)
+    (λ c. search needs)
+    (λ c. search needs)
+    (λ c. search needs)
+    (λ c. search needs)
+    (λ c κs. search needs)
+    (λ c. search needs)
+    (λ c. search needs)
+    (λ c. search needs)
     returns-3)

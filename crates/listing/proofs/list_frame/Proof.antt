@@ -14,9 +14,6 @@ use Rattle.listing.specs.TextLaws.{frame-spans, text-length}
 use Rattle.listing.proofs.list_frame.Statement.{statement}
 use Rattle.listing.proofs.list_frame.Tie as tie
 
-is-frame-requires : tie.Need-is-frame-requires
-is-frame-requires c κs = search needs
-
 returns : tie.Need-returns
 unfolding listing
 returns c = rw (sym (c .before .is-frame .ensures) ∙ not-true _ (c .if1 .taken))
@@ -31,9 +28,6 @@ spans c = frame-spans _ (one c)
 
 shared-slice-read-text-length : tie.Need-shared-slice-read-text-length
 shared-slice-read-text-length c = omega (arith, spans (c .before))
-
-text-length-requires : tie.Need-text-length-requires
-text-length-requires c κs = search needs
 
 -- the length that was decided on is the text's
 decided : (c : tie.After-text-length) → c .text-length .result ≡ length (textOf (c .before .before .before .before .before .before .args .frame .now))
@@ -57,9 +51,6 @@ room c = omega (arith, c .before .text-length .ensures)
 write-line-requires : tie.Need-write-line-requires
 write-line-requires c κs = (spans (c .before .before .before .before), room (c .before))
 
-same-length : tie.Need-same-length
-same-length c = search needs
-
 returns-3 : tie.Need-returns-3
 unfolding listing
 returns-3 c =
@@ -75,11 +66,11 @@ pub list-frame-spec : {M : Type 1} → statement M
 list-frame-spec =
     tie.close
     (tie.spec
-    is-frame-requires
+    (λ c κs. search needs)
     returns
     shared-slice-read-text-length
-    text-length-requires
+    (λ c κs. search needs)
     returns-2
     write-line-requires
-    same-length
+    (λ c. search needs)
     returns-3)

@@ -9,15 +9,9 @@ returns : tie.Need-returns
 unfolding textLength
 returns c = simp (eq-eqb _ _ (c .if1 .taken))
 
-mul-result : tie.Need-mul-result
-mul-result c = search needs
-
-add-result : tie.Need-add-result
-add-result c = search needs
-
 returns-2 : tie.Need-returns-2
 unfolding textLength
 returns-2 c = simp (ne-eqb _ _ (c .if1 .left))
 
 pub text-length-spec : {M : Type 1} → statement M
-text-length-spec = tie.close (tie.spec returns mul-result add-result returns-2)
+text-length-spec = tie.close (tie.spec returns (λ c. search needs) (λ c. search needs) returns-2)

@@ -8,24 +8,6 @@ use Rattle.listing.specs.TextLaws.{head-stored}
 use Rattle.listing.proofs.write_head.Statement.{statement}
 use Rattle.listing.proofs.write_head.Tie as tie
 
-sub-write-address : tie.Need-sub-write-address
-sub-write-address c = search needs
-
-part-write-address-start : tie.Need-part-write-address-start
-part-write-address-start c = search needs
-
-part-write-address-end : tie.Need-part-write-address-end
-part-write-address-end c = search needs
-
-write-address-requires : tie.Need-write-address-requires
-write-address-requires c κs = search needs
-
-slice-write-out : tie.Need-slice-write-out
-slice-write-out c = search needs
-
-shared-slice-read-write-byte : tie.Need-shared-slice-read-write-byte
-shared-slice-read-write-byte c = search needs
-
 write-byte-requires : tie.Need-write-byte-requires
 write-byte-requires c κs = simp length-set (omega (arith, c .before .before .before .before .write-address .kept .1 .0))
 
@@ -47,12 +29,12 @@ pub write-head-spec : {M : Type 1} → statement M
 write-head-spec =
     tie.close
     (tie.spec
-    sub-write-address
-    part-write-address-start
-    part-write-address-end
-    write-address-requires
-    slice-write-out
-    shared-slice-read-write-byte
+    (λ c. search needs)
+    (λ c. search needs)
+    (λ c. search needs)
+    (λ c κs. search needs)
+    (λ c. search needs)
+    (λ c. search needs)
     write-byte-requires
     same-length
     returns)

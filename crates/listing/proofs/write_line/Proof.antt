@@ -10,12 +10,6 @@ use Rattle.listing.proofs.write_line.Tie as tie
 write-head-requires : tie.Need-write-head-requires
 write-head-requires c κs = (c .before .before .before .pre .0, omega (arith, length-least (lengthOf (c .before .before .before .args .frame .now))))
 
-write-tail-requires : tie.Need-write-tail-requires
-write-tail-requires c κs = search needs
-
-same-length : tie.Need-same-length
-same-length c = search needs
-
 returns : tie.Need-returns
 returns c =
     let at-tail = c .before .before in
@@ -24,4 +18,4 @@ returns c =
     at-tail .write-tail .ensures ∙ rw (at-head .write-head .ensures) (text-stored (start .args .frame .now) (start .pre .0) (start .args .out .now) (start .pre .1))
 
 pub write-line-spec : {M : Type 1} → statement M
-write-line-spec = tie.close (tie.spec write-head-requires write-tail-requires same-length returns)
+write-line-spec = tie.close (tie.spec write-head-requires (λ c κs. search needs) (λ c. search needs) returns)

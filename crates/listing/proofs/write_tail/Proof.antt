@@ -11,17 +11,11 @@ use Rattle.listing.specs.TextLaws.{length-least, length-some, no-data-st
 use Rattle.listing.proofs.write_tail.Statement.{statement}
 use Rattle.listing.proofs.write_tail.Tie as tie
 
-shared-slice-read-count : tie.Need-shared-slice-read-count
-shared-slice-read-count c = search needs
-
 cast-count : tie.Need-cast-count
 cast-count c = omega (arith, c .shared-slice-known2 .given 9)
 
 slice-write-out : tie.Need-slice-write-out
 slice-write-out c = omega (arith, length-least (lengthOf (c .before .before .before .before .args .frame .now)))
-
-same-length : tie.Need-same-length
-same-length c = search needs
 
 returns : tie.Need-returns
 unfolding lengthOf
@@ -50,12 +44,6 @@ add-end c = omega (arith, some c)
 
 slice-write-out-2 : tie.Need-slice-write-out-2
 slice-write-out-2 c = omega (arith, some c)
-
-sub-write-data : tie.Need-sub-write-data
-sub-write-data c = search needs
-
-part-write-data-start : tie.Need-part-write-data-start
-part-write-data-start c = search needs
 
 part-write-data-end : tie.Need-part-write-data-end
 part-write-data-end c = omega (arith, some c)
@@ -92,15 +80,15 @@ pub write-tail-spec : {M : Type 1} → statement M
 write-tail-spec =
     tie.close
     (tie.spec
-    shared-slice-read-count
+    (λ c. search needs)
     cast-count
     slice-write-out
-    same-length
+    (λ c. search needs)
     returns
     add-end
     slice-write-out-2
-    sub-write-data
-    part-write-data-start
+    (λ c. search needs)
+    (λ c. search needs)
     part-write-data-end
     write-data-requires
     mul-out

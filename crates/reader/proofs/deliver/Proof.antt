@@ -5,11 +5,11 @@ use native.Mathlib.Omega.{arith}
 use borrow.Author.Needs.{needs}
 use borrow.Rule.Slice.PartAt.{part-to-end}
 use lib.ListN.{length, length-drop}
-use Rattle.frame.specs.Memory.{outcome}
-use Rattle.frame.specs.MemoryLaws.{copied}
+use Rattle.laws.specs.Memory.{outcome}
+use Rattle.laws.specs.MemoryLaws.{copied}
+use Rattle.reader_judgement.specs.declared.Judgement.{Judgement}
+use Rattle.reader_judgement.specs.declared.Judgement.the-variants.{Value}
 use Rattle.reader.specs.Judging.{Fits}
-use Rattle.reader.specs.declared.Judgement.{Judgement}
-use Rattle.reader.specs.declared.Judgement.the-variants.{Value}
 use Rattle.reader.proofs.deliver.Statement.{statement}
 use Rattle.reader.proofs.deliver.Tie as tie
 
@@ -23,29 +23,14 @@ fits c =
     let s = at-start c in
     subst (λ (j : Judgement). Fits j (s .args .start) (s .args .meant .now) (s .args .out .now)) (c .before .decided .given .1) (s .pre)
 
-enum-known-decided : tie.Need-enum-known-decided
-enum-known-decided c = search needs
-
 sub-copy : tie.Need-sub-copy
 sub-copy c = omega (arith, fits c)
 
 part-copy-start : tie.Need-part-copy-start
 part-copy-start c = omega (arith, fits c)
 
-part-copy-end : tie.Need-part-copy-end
-part-copy-end c = search needs
-
 copy-requires : tie.Need-copy-requires
 copy-requires c κs = rw (part-to-end, length-drop) (omega (arith, fits (c .before .before)))
-
-enum-known-decided-2 : tie.Need-enum-known-decided-2
-enum-known-decided-2 c = search needs
-
-enum-known-decided-3 : tie.Need-enum-known-decided-3
-enum-known-decided-3 c = search needs
-
-same-length : tie.Need-same-length
-same-length c = search needs
 
 returns : tie.Need-returns
 returns c =
@@ -64,14 +49,14 @@ pub deliver-spec : {M : Type 1} → statement M
 deliver-spec =
     tie.close
     (tie.spec
-    enum-known-decided
+    (λ c. search needs)
     sub-copy
     part-copy-start
-    part-copy-end
+    (λ c. search needs)
     copy-requires
-    enum-known-decided-2
-    enum-known-decided-3
-    same-length
+    (λ c. search needs)
+    (λ c. search needs)
+    (λ c. search needs)
     returns
     returns-2
     returns-3)

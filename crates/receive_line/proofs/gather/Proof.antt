@@ -7,8 +7,8 @@ use borrow.Author.Needs.{needs}
 use borrow.Rule.Slice.PartMut.{putMid}
 use lib.ListN.{length, take, drop, length-take, length-drop}
 use lib.Seq.{length-take-le}
-use Rattle.frame.specs.Memory.{over}
-use Rattle.frame.specs.MemoryLaws.{copied}
+use Rattle.laws.specs.Memory.{over}
+use Rattle.laws.specs.MemoryLaws.{copied}
 use Rattle.receive_line.specs.WholeLineLaws.{gathered-none, gathered}
 use Rattle.receive_line.proofs.gather.Statement.{statement}
 use Rattle.receive_line.proofs.gather.Tie as tie
@@ -21,23 +21,8 @@ returns c =
 slice-aggregate-copy : tie.Need-slice-aggregate-copy
 slice-aggregate-copy c = sym (length-take-le _ _ (omega arith))
 
-sub-copy : tie.Need-sub-copy
-sub-copy c = search needs
-
-part-copy-start : tie.Need-part-copy-start
-part-copy-start c = search needs
-
-part-copy-end : tie.Need-part-copy-end
-part-copy-end c = search needs
-
 copy-requires : tie.Need-copy-requires
 copy-requires c κs = simp (length-take, length-drop) (omega arith)
-
-add-result : tie.Need-add-result
-add-result c = search needs
-
-same-length : tie.Need-same-length
-same-length c = search needs
 
 returns-2 : tie.Need-returns-2
 returns-2 c =
@@ -55,10 +40,10 @@ gather-spec =
     (tie.spec
     returns
     slice-aggregate-copy
-    sub-copy
-    part-copy-start
-    part-copy-end
+    (λ c. search needs)
+    (λ c. search needs)
+    (λ c. search needs)
     copy-requires
-    add-result
-    same-length
+    (λ c. search needs)
+    (λ c. search needs)
     returns-2)

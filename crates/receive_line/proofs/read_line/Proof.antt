@@ -1,7 +1,7 @@
 -- Either answer to the block, as one number, is what the whole line comes to.
 use mathlib.Core.Path.{_≡_, ap, sym, _∙_}
 use borrow.Author.Needs.{needs}
-use Rattle.frame.specs.Memory.{outcome}
+use Rattle.laws.specs.Memory.{outcome}
 use Rattle.recording.specs.declared.BlockAnswer.{BlockAnswer}
 use Rattle.receive_line.specs.WholeLine.{receivedLine}
 use Rattle.receive_line.specs.WholeLineLaws.{numberOf, line-read}
@@ -17,23 +17,8 @@ answered c e =
     let number : outcome (numberOf (c .read-block .result)) (c .read-block .last .1 .1 .0) ≡ receivedLine (args .input .now) (args .out .now) = line-read (args .input .now) (args .out .now) _ _ (c .read-block .ensures) in
     ap (λ (b : BlockAnswer). outcome (numberOf b) (c .read-block .last .1 .1 .0)) (sym e) ∙ number
 
-read-block-requires : tie.Need-read-block-requires
-read-block-requires c κs = search needs
-
-enum-told : tie.Need-enum-told
-enum-told c = search needs
-
-enum-known-answer : tie.Need-enum-known-answer
-enum-known-answer c = search needs
-
-same-length : tie.Need-same-length
-same-length c = search needs
-
 returns : tie.Need-returns
 returns c = answered (c .before .before .before .before) (c .enum-told .given .1)
-
-same-length-2 : tie.Need-same-length-2
-same-length-2 c = search needs
 
 returns-2 : tie.Need-returns-2
 returns-2 c = answered (c .before .before .before .before .before) (c .before .answer .given .1)
@@ -42,10 +27,10 @@ pub read-line-spec : {M : Type 1} → statement M
 read-line-spec =
     tie.close
     (tie.spec
-    read-block-requires
-    enum-told
-    enum-known-answer
-    same-length
+    (λ c κs. search needs)
+    (λ c. search needs)
+    (λ c. search needs)
+    (λ c. search needs)
     returns
-    same-length-2
+    (λ c. search needs)
     returns-2)

@@ -5,7 +5,7 @@ use mathlib.Core.Path.{refl}
 use native.Mathlib.Omega.{arith}
 use borrow.Author.Needs.{needs}
 use lib.ListN.{length, replicate}
-use Rattle.line.specs.Line.{silence}
+use Rattle.line_terms.specs.Line.{silence}
 use Rattle.receive_line.specs.WholeLineLaws.{never-refused, end-within, end-fits, line-received, too-short}
 use Rattle.receive_line.proofs.receive_line.Statement.{statement}
 use Rattle.receive_line.proofs.receive_line.Tie as tie
@@ -39,39 +39,15 @@ returns c =
     let a = c .before .before .before .args in
     too-short (a .input .now) (a .out .now) (c .if1 .taken)
 
-receive-all-requires : tie.Need-receive-all-requires
-receive-all-requires c κs = search needs
-
-slice-aggregate-silence : tie.Need-slice-aggregate-silence
-slice-aggregate-silence c = search needs
-
-silence-requires : tie.Need-silence-requires
-silence-requires c κs = search needs
-
-enum-told : tie.Need-enum-told
-enum-told c = search needs
-
-enum-known-answer : tie.Need-enum-known-answer
-enum-known-answer c = search needs
-
-slice-aggregate-gather : tie.Need-slice-aggregate-gather
-slice-aggregate-gather c = search needs
-
 gather-requires : tie.Need-gather-requires
 gather-requires c κs =
     let d = delivered (c .before .before .before) in
     (omega (arith, d .0), omega (arith, d .1))
 
-same-length : tie.Need-same-length
-same-length c = search needs
-
 returns-2 : tie.Need-returns-2
 returns-2 c =
     let s = c .before .before in
     absurd (never-refused silence (replicate 212 0) (heard s .receive-all .ensures .heard) (omega arith) (s .before .silence .ensures) (c .enum-told .given .1))
-
-same-length-2 : tie.Need-same-length-2
-same-length-2 c = search needs
 
 returns-3 : tie.Need-returns-3
 returns-3 c =
@@ -87,14 +63,14 @@ receive-line-spec =
     tie.close
     (tie.spec
     returns
-    receive-all-requires
-    slice-aggregate-silence
-    silence-requires
-    enum-told
-    enum-known-answer
-    slice-aggregate-gather
+    (λ c κs. search needs)
+    (λ c. search needs)
+    (λ c κs. search needs)
+    (λ c. search needs)
+    (λ c. search needs)
+    (λ c. search needs)
     gather-requires
-    same-length
+    (λ c. search needs)
     returns-2
-    same-length-2
+    (λ c. search needs)
     returns-3)

@@ -8,11 +8,11 @@ use native.Mathlib.Omega.{arith}
 use borrow.Author.Needs.{needs}
 use borrow.Author.Tests.{not-true, not-false}
 use lib.ListN.{length, take, drop, length-take, length-drop}
-use Rattle.frame.specs.MemoryLaws.{copied}
-use Rattle.frame.specs.Memory.{over}
+use Rattle.laws.specs.MemoryLaws.{copied}
+use Rattle.laws.specs.Memory.{over}
 use Rattle.frame.specs.Recognition.{recognised}
 use Rattle.frame.specs.declared.Recognised.the-variants.{Whole}
-use Rattle.line.specs.Scan.{settled}
+use Rattle.line_terms.specs.Scan.{settled}
 use Rattle.line.specs.DrainLaws.{rest-part, Draining, draining-start, draining-next, draining-whole, draining-end, draining-open, draining-closed, whole-fits, whole-least}
 use Rattle.recording.specs.SkipLaws.{passes-one, passes-join, draining-passes}
 use Rattle.recording.specs.BlockLaws.{drained-read}

@@ -7,14 +7,5 @@ use Rattle.recording.proofs.read_block.Tie as tie
 returns : tie.Need-returns
 returns c = read-refused _ _ _ (c .if1 .taken)
 
-drain-requires : tie.Need-drain-requires
-drain-requires c κs = search needs
-
-same-length : tie.Need-same-length
-same-length c = search needs
-
-returns-2 : tie.Need-returns-2
-returns-2 c = search needs
-
 pub read-block-spec : {M : Type 1} → statement M
-read-block-spec = tie.close (tie.spec returns drain-requires same-length returns-2)
+read-block-spec = tie.close (tie.spec returns (λ c κs. search needs) (λ c. search needs) (λ c. search needs))

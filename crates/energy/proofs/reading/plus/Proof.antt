@@ -5,15 +5,9 @@ use Rattle.energy.specs.Reading.{plusAmount}
 use Rattle.energy.proofs.reading.plus.Statement.{statement}
 use Rattle.energy.proofs.reading.plus.Tie as tie
 
-add-result : tie.Need-add-result
-add-result c = search needs
-
-cast-result : tie.Need-cast-result
-cast-result c = search needs
-
 returns : tie.Need-returns
 unfolding plusAmount
 returns c = refl
 
 pub plus-spec : {M : Type 1} → statement M
-plus-spec = tie.close (tie.spec add-result cast-result returns)
+plus-spec = tie.close (tie.spec (λ c. search needs) (λ c. search needs) returns)

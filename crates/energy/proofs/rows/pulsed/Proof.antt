@@ -16,42 +16,15 @@ is-rate c = sym (c .before .is-rate .ensures) ∙ not-false _ (c .if1 .left)
 column : (c : tie.Else1) → c .before .before .args .rate < 5
 column c = rate-column _ (is-rate c)
 
-is-rate-requires : tie.Need-is-rate-requires
-is-rate-requires c κs = search needs
-
 returns : tie.Need-returns
 unfolding pulsed
 returns c = rw (sym (c .before .is-rate .ensures) ∙ not-true _ (c .if1 .taken))
 
-array-copy-out-row : tie.Need-array-copy-out-row
-array-copy-out-row c = search needs
-
-array-read-plus : tie.Need-array-read-plus
-array-read-plus c = search needs
-
-plus-requires : tie.Need-plus-requires
-plus-requires c κs = search needs
-
-mul-plus : tie.Need-mul-plus
-mul-plus c = search needs
-
 array-read-plus-2 : tie.Need-array-read-plus-2
 array-read-plus-2 c = column (c .before .before)
 
-plus-requires-2 : tie.Need-plus-requires-2
-plus-requires-2 c κs = search needs
-
-array-write-row : tie.Need-array-write-row
-array-write-row c = search needs
-
-mul-row : tie.Need-mul-row
-mul-row c = search needs
-
 array-write-row-2 : tie.Need-array-write-row-2
 array-write-row-2 c = column (c .before .before .before)
-
-array-set-from-next : tie.Need-array-set-from-next
-array-set-from-next c = search needs
 
 returns-2 : tie.Need-returns-2
 unfolding pulsed
@@ -64,16 +37,16 @@ pub pulsed-spec : {M : Type 1} → statement M
 pulsed-spec =
     tie.close
     (tie.spec
-    is-rate-requires
+    (λ c κs. search needs)
     returns
-    array-copy-out-row
-    array-read-plus
-    plus-requires
-    mul-plus
+    (λ c. search needs)
+    (λ c. search needs)
+    (λ c κs. search needs)
+    (λ c. search needs)
     array-read-plus-2
-    plus-requires-2
-    array-write-row
-    mul-row
+    (λ c κs. search needs)
+    (λ c. search needs)
+    (λ c. search needs)
     array-write-row-2
-    array-set-from-next
+    (λ c. search needs)
     returns-2)

@@ -1,23 +1,11 @@
 -- What was found is what `firstBad` says; where it is nothing the range decides, as in `afterScan`.
 use mathlib.Core.Path.{_≡_, sym, _∙_}
 use borrow.Author.Needs.{needs}
-use Rattle.item.specs.Decimal.{firstBad}
+use Rattle.item_decimal.specs.Decimal.{firstBad}
 use Rattle.item.specs.Content.{contentOf}
-use Rattle.item.specs.declared.decimal.Scan.{Scan}
+use Rattle.item_decimal.specs.declared.Scan.{Scan}
 use Rattle.item.proofs.content.content_of.Statement.{statement}
 use Rattle.item.proofs.content.content_of.Tie as tie
-
-first-bad-requires : tie.Need-first-bad-requires
-first-bad-requires c κs = search needs
-
-enum-known-scan : tie.Need-enum-known-scan
-enum-known-scan c = search needs
-
-enum-told : tie.Need-enum-told
-enum-told c = search needs
-
-in-range-requires : tie.Need-in-range-requires
-in-range-requires c κs = search needs
 
 -- what was found
 scanned : (c : tie.After-first-bad) (r : Scan) → c .first-bad .result ≡ r → firstBad (c .before .before .args .value .now) ≡ r
@@ -43,10 +31,10 @@ pub content-of-spec : {M : Type 1} → statement M
 content-of-spec =
     tie.close
     (tie.spec
-    first-bad-requires
-    enum-known-scan
-    enum-told
-    in-range-requires
+    (λ c κs. search needs)
+    (λ c. search needs)
+    (λ c. search needs)
+    (λ c κs. search needs)
     returns
     returns-2
     returns-3)

@@ -7,12 +7,6 @@ use Rattle.item.specs.Content.{digitsAt, within, dateInRange}
 use Rattle.item.proofs.content.date_in_range.Statement.{statement}
 use Rattle.item.proofs.content.date_in_range.Tie as tie
 
-digits-at-requires : tie.Need-digits-at-requires
-digits-at-requires c κs = search needs
-
-is-within-requires : tie.Need-is-within-requires
-is-within-requires c κs = search needs
-
 -- the first two tests as they were made
 first : (c : tie.After-is-within) (t : Bool) → c .is-within .result ≡ t → within 0 6 (digitsAt (c .before .before .before .args .value .now) 0) ≡ t
 first c t e = sym (c .is-within .ensures ∙ ap (within 0 6) (c .before .digits-at .ensures)) ∙ e
@@ -24,23 +18,11 @@ returns : tie.Need-returns
 unfolding dateInRange
 returns c = rw (first (c .before) false (not-true _ (c .if1 .taken)))
 
-digits-at-requires-2 : tie.Need-digits-at-requires-2
-digits-at-requires-2 c κs = search needs
-
-is-within-requires-2 : tie.Need-is-within-requires-2
-is-within-requires-2 c κs = search needs
-
 returns-2 : tie.Need-returns-2
 unfolding dateInRange
 returns-2 c =
     let at-if1 = c .before .before .before in
     rw (first (at-if1 .before) true (not-false _ (at-if1 .if1 .left)), second (c .before) false (not-true _ (c .if2 .taken)))
-
-digits-at-requires-3 : tie.Need-digits-at-requires-3
-digits-at-requires-3 c κs = search needs
-
-is-within-requires-3 : tie.Need-is-within-requires-3
-is-within-requires-3 c κs = search needs
 
 returns-3 : tie.Need-returns-3
 unfolding dateInRange
@@ -54,12 +36,12 @@ pub date-in-range-spec : {M : Type 1} → statement M
 date-in-range-spec =
     tie.close
     (tie.spec
-    digits-at-requires
-    is-within-requires
+    (λ c κs. search needs)
+    (λ c κs. search needs)
     returns
-    digits-at-requires-2
-    is-within-requires-2
+    (λ c κs. search needs)
+    (λ c κs. search needs)
     returns-2
-    digits-at-requires-3
-    is-within-requires-3
+    (λ c κs. search needs)
+    (λ c κs. search needs)
     returns-3)

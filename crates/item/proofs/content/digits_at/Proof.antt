@@ -2,16 +2,10 @@
 use mathlib.Core.Path.{_≡_}
 use borrow.Author.Needs.{needs}
 use lib.ListN.{getD, List·getD-eq-default}
-use Rattle.item.specs.Decimal.{digits}
+use Rattle.item_decimal.specs.Decimal.{digits}
 use Rattle.item.specs.Content.{digitsAt}
 use Rattle.item.proofs.content.digits_at.Statement.{statement}
 use Rattle.item.proofs.content.digits_at.Tie as tie
-
-shared-slice-read-digits-of : tie.Need-shared-slice-read-digits-of
-shared-slice-read-digits-of c = search needs
-
-digits-of-requires : tie.Need-digits-of-requires
-digits-of-requires c κs = search needs
 
 returns : tie.Need-returns
 unfolding digitsAt
@@ -26,4 +20,4 @@ returns-2 c =
 
 pub digits-at-spec : {M : Type 1} → statement M
 digits-at-spec =
-    tie.close (tie.spec shared-slice-read-digits-of digits-of-requires returns returns-2)
+    tie.close (tie.spec (λ c. search needs) (λ c κs. search needs) returns returns-2)

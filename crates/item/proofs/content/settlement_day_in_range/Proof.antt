@@ -8,20 +8,11 @@ use Rattle.item.specs.Content.{digitsAt, within, notSet, settlementDayIn
 use Rattle.item.proofs.content.settlement_day_in_range.Statement.{statement}
 use Rattle.item.proofs.content.settlement_day_in_range.Tie as tie
 
-digits-at-requires : tie.Need-digits-at-requires
-digits-at-requires c κs = search needs
-
-digits-at-requires-2 : tie.Need-digits-at-requires-2
-digits-at-requires-2 c κs = search needs
-
 returns : tie.Need-returns
 unfolding settlementDayInRange notSet
 returns c =
     let at-day = c .before .before in
     rw (← at-day .before .digits-at .ensures, ← at-day .digits-at2 .ensures, eq-eqb _ 99 (c .before .if1 .taken), eq-eqb _ 99 (c .if2 .taken))
-
-is-within-requires : tie.Need-is-within-requires
-is-within-requires c κs = search needs
 
 -- where the tests meet the day is set
 set : (c : tie.Joined1) → notSet (c .before .before .before .before .args .value .now) ≡ false
@@ -39,9 +30,6 @@ returns-2 : tie.Need-returns-2
 unfolding settlementDayInRange
 returns-2 c = rw (set (c .before .before), hour (c .before) false (not-true _ (c .if3 .taken)))
 
-is-within-requires-2 : tie.Need-is-within-requires-2
-is-within-requires-2 c κs = search needs
-
 returns-3 : tie.Need-returns-3
 unfolding settlementDayInRange
 returns-3 c =
@@ -54,10 +42,10 @@ pub settlement-day-in-range-spec : {M : Type 1} → statement M
 settlement-day-in-range-spec =
     tie.close
     (tie.spec
-    digits-at-requires
-    digits-at-requires-2
+    (λ c κs. search needs)
+    (λ c κs. search needs)
     returns
-    is-within-requires
+    (λ c κs. search needs)
     returns-2
-    is-within-requires-2
+    (λ c κs. search needs)
     returns-3)

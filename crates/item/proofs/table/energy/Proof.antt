@@ -5,15 +5,9 @@ use Rattle.item.specs.Table.{energyItem}
 use Rattle.item.proofs.table.energy.Statement.{statement}
 use Rattle.item.proofs.table.energy.Tie as tie
 
-readings-requires : tie.Need-readings-requires
-readings-requires c κs = search needs
-
 returns : tie.Need-returns
 unfolding energyItem
 returns c = rw (le-leb _ 4 (c .before .before .if1 .taken), le-leb _ 12 (c .before .if2 .taken)) (c .readings .ensures)
-
-readings-requires-2 : tie.Need-readings-requires-2
-readings-requires-2 c κs = search needs
 
 returns-2 : tie.Need-returns-2
 unfolding energyItem
@@ -24,9 +18,6 @@ returns-2 c =
 returns-3 : tie.Need-returns-3
 unfolding energyItem
 returns-3 c = rw (le-leb _ 4 (c .before .before .if1 .taken), lt-leb _ 12 (c .before .if2 .left), ne-eqb _ 0xFF (c .if3 .left))
-
-readings-requires-3 : tie.Need-readings-requires-3
-readings-requires-3 c κs = search needs
 
 returns-4 : tie.Need-returns-4
 unfolding energyItem
@@ -46,12 +37,12 @@ pub energy-spec : {M : Type 1} → statement M
 energy-spec =
     tie.close
     (tie.spec
-    readings-requires
+    (λ c κs. search needs)
     returns
-    readings-requires-2
+    (λ c κs. search needs)
     returns-2
     returns-3
-    readings-requires-3
+    (λ c κs. search needs)
     returns-4
     returns-5
     returns-6)

@@ -8,43 +8,13 @@ use Rattle.item.specs.declared.table.Lookup.the-variants.{NotListed}
 use Rattle.item.proofs.table.item_of.Statement.{statement}
 use Rattle.item.proofs.table.item_of.Tie as tie
 
-energy-requires : tie.Need-energy-requires
-energy-requires c κs = search needs
-
 returns : tie.Need-returns
 unfolding itemOf
 returns c = rw (eq-eqb _ 1 (c .before .if1 .taken)) (c .energy .ensures)
 
-energy-requires-2 : tie.Need-energy-requires-2
-energy-requires-2 c κs = search needs
-
 returns-2 : tie.Need-returns-2
 unfolding itemOf
 returns-2 c = rw (ne-eqb _ 1 (c .before .before .if1 .left), eq-eqb _ 2 (c .before .if2 .taken)) (c .energy2 .ensures)
-
-register-requires : tie.Need-register-requires
-register-requires c κs = search needs
-
-register-requires-2 : tie.Need-register-requires-2
-register-requires-2 c κs = search needs
-
-register-requires-3 : tie.Need-register-requires-3
-register-requires-3 c κs = search needs
-
-register-requires-4 : tie.Need-register-requires-4
-register-requires-4 c κs = search needs
-
-register-requires-5 : tie.Need-register-requires-5
-register-requires-5 c κs = search needs
-
-register-requires-6 : tie.Need-register-requires-6
-register-requires-6 c κs = search needs
-
-register-requires-7 : tie.Need-register-requires-7
-register-requires-7 c κs = search needs
-
-register-requires-8 : tie.Need-register-requires-8
-register-requires-8 c κs = search needs
 
 -- behind the tests of the group the rest of the table decides
 other : (c : tie.Else2) (k : ℕ) → c .before .before .args .identifier ≡ k → found k otherRows ≡ itemOf (c .before .before .args .identifier)
@@ -111,18 +81,18 @@ pub item-of-spec : {M : Type 1} → statement M
 item-of-spec =
     tie.close
     (tie.spec
-    energy-requires
+    (λ c κs. search needs)
     returns
-    energy-requires-2
+    (λ c κs. search needs)
     returns-2
-    register-requires
-    register-requires-2
-    register-requires-3
-    register-requires-4
-    register-requires-5
-    register-requires-6
-    register-requires-7
-    register-requires-8
+    (λ c κs. search needs)
+    (λ c κs. search needs)
+    (λ c κs. search needs)
+    (λ c κs. search needs)
+    (λ c κs. search needs)
+    (λ c κs. search needs)
+    (λ c κs. search needs)
+    (λ c κs. search needs)
     returns-3
     returns-4
     returns-5

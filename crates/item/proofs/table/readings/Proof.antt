@@ -8,9 +8,6 @@ use Rattle.item.specs.Table.{readings}
 use Rattle.item.proofs.table.readings.Statement.{statement}
 use Rattle.item.proofs.table.readings.Tie as tie
 
-mul-t7 : tie.Need-mul-t7
-mul-t7 c = search needs
-
 mul-t8 : tie.Need-mul-t8
 mul-t8 c =
     let columns : 4 * c .args .rates ≤ 20 = omega arith in
@@ -22,4 +19,4 @@ unfolding readings
 returns c = refl
 
 pub readings-spec : {M : Type 1} → statement M
-readings-spec = tie.close (tie.spec mul-t7 mul-t8 returns)
+readings-spec = tie.close (tie.spec (λ c. search needs) mul-t8 returns)

@@ -1,16 +1,17 @@
 -- Each arm of the match is a case of `called`: what `decide` says of the verdict is what the law of that case asks.
 use Prim.Native.Nat.{ℕ, _+_, _≤_}
-use mathlib.Core.Path.{_≡_, subst}
+use mathlib.Core.Path.{_≡_, sym, subst, _∙_}
 use native.Mathlib.Omega.{arith}
 use borrow.Author.Needs.{needs}
 use lib.ListN.{length}
 use Rattle.frame.specs.RecognitionLaws.{open-most}
 use Rattle.line.specs.Receiver.{keptBytes}
-use Rattle.line.specs.Verdict.{Decides}
-use Rattle.line.specs.VerdictLaws.{with-length}
-use Rattle.line.specs.StepLaws.{within-most, call-bad, call-short, call-skips, call-grows, call-whole, call-falls}
-use Rattle.line.specs.Line.{byte}
-use Rattle.line.specs.declared.verdict.Verdict.the-variants.{Short, Skips, Grows, Whole, Falls}
+use Rattle.line_verdict.specs.VerdictLaws.{with-length}
+use Rattle.line_verdict.specs.DecidedLaws.{within-most, Decides, decides}
+use Rattle.line.specs.StepLaws.{call-bad, call-short, call-skips, call-grows, call-whole, call-falls}
+use Rattle.line_terms.specs.Line.{byte}
+use Rattle.line_verdict.specs.declared.Verdict.{Verdict}
+use Rattle.line_verdict.specs.declared.Verdict.the-variants.{Bad, Short, Skips, Grows, Whole, Falls}
 use Rattle.line.proofs.Receiver.byte.Statement.{statement}
 use Rattle.line.proofs.Receiver.byte.Tie as tie
 
@@ -19,20 +20,27 @@ kept-size : (s : tie.Start) → length (s .args .t1 .kept) ≡ 211
 kept-size s = search needs
 
 abbrev at-start : tie.After-decide → tie.Start
-at-start c = c .before .before .before .before .before
+at-start c = c .before .before .before .before
+
+-- what a verdict says of the receiver, the byte and the memory that the call began with
+abbrev Says : tie.Start → Verdict → Type 0
+Says s = Decides (s .args .t1 .kept) (s .args .t1 .count) (s .args .b) (length (s .args .out .now))
 
 -- what the verdict says, in each arm
-skips : (c : tie.After-enum-told3) → let s = at-start (c .before .before) in Decides (s .args .t1) (s .args .b) (length (s .args .out .now)) Skips
-skips c = subst (Decides _ _ _) (c .enum-told3 .given .1) (c .before .before .decide .ensures)
+says : (c : tie.After-decide) (v : Verdict) → c .decide .result ≡ v → Says (at-start c) v
+says c v e = let s = at-start c in subst (Says s) (sym (c .decide .ensures) ∙ e) (decides _ _ _ _ (kept-size s))
 
-grows : (c : tie.After-enum-told4) → let s = at-start (c .before .before) in Decides (s .args .t1) (s .args .b) (length (s .args .out .now)) Grows
-grows c = subst (Decides _ _ _) (c .enum-told4 .given .1) (c .before .before .decide .ensures)
+skips : (c : tie.After-enum-told3) → Says (at-start (c .before .before)) Skips
+skips c = says (c .before .before) Skips (c .enum-told3 .given .1)
 
-whole : (c : tie.After-enum-told5) → let s = at-start (c .before .before) in Decides (s .args .t1) (s .args .b) (length (s .args .out .now)) Whole
-whole c = subst (Decides _ _ _) (c .enum-told5 .given .1) (c .before .before .decide .ensures)
+grows : (c : tie.After-enum-told4) → Says (at-start (c .before .before)) Grows
+grows c = says (c .before .before) Grows (c .enum-told4 .given .1)
 
-falls : (c : tie.After-enum-told6) → let s = at-start (c .before .before) in Decides (s .args .t1) (s .args .b) (length (s .args .out .now)) Falls
-falls c = subst (Decides _ _ _) (c .enum-told6 .given .1) (c .before .before .decide .ensures)
+whole : (c : tie.After-enum-told5) → Says (at-start (c .before .before)) Whole
+whole c = says (c .before .before) Whole (c .enum-told5 .given .1)
+
+falls : (c : tie.After-enum-told6) → Says (at-start (c .before .before)) Falls
+falls c = says (c .before .before) Falls (c .enum-told6 .given .1)
 
 -- where the kept bytes grow there is room for one more
 room : (c : tie.After-enum-told4) → at-start (c .before .before) .args .t1 .count + 1 ≤ 211
@@ -41,23 +49,8 @@ room c =
     let s = at-start (c .before .before) in
     let r = s .args .t1 in
     let size : length (r .kept) ≡ 211 = kept-size s in
-    let most : r .count ≤ 211 = within-most r (grows c .1 .0) in
-    subst (λ (n : ℕ). n ≤ 211) (with-length (r .kept) (r .count) (s .args .b) (omega arith)) (open-most _ (grows c .1 .1))
-
-decide-requires : tie.Need-decide-requires
-decide-requires c κs = search needs
-
-enum-told : tie.Need-enum-told
-enum-told c = search needs
-
-enum-told-2 : tie.Need-enum-told-2
-enum-told-2 c = search needs
-
-enum-told-3 : tie.Need-enum-told-3
-enum-told-3 c = search needs
-
-enum-told-4 : tie.Need-enum-told-4
-enum-told-4 c = search needs
+    let most : r .count ≤ 211 = within-most (r .kept) (r .count) (grows c .0) in
+    subst (λ (n : ℕ). n ≤ 211) (with-length (r .kept) (r .count) (s .args .b) (omega arith)) (open-most _ (grows c .2))
 
 element-write-self : tie.Need-element-write-self
 element-write-self c = omega (arith, room c)
@@ -65,60 +58,52 @@ element-write-self c = omega (arith, room c)
 add-self : tie.Need-add-self
 add-self c = omega (arith, room c)
 
-enum-told-5 : tie.Need-enum-told-5
-enum-told-5 c = search needs
-
 join-requires : tie.Need-join-requires
 join-requires c κs =
     let w = c .before .before .before .before in
     let s = at-start (w .before .before) in
-    let most : s .args .t1 .count ≤ 211 = within-most (s .args .t1) (whole w .1 .0) in
+    let most : s .args .t1 .count ≤ 211 = within-most (s .args .t1 .kept) (s .args .t1 .count) (whole w .0) in
     let size : length (s .args .t1 .kept) ≡ 211 = kept-size s in
-    let roomy : 212 ≤ length (s .args .out .now) = whole w .0 in
+    let roomy : 212 ≤ length (s .args .out .now) = whole w .1 in
     (omega arith, omega arith)
 
-add-t20 : tie.Need-add-t20
-add-t20 c =
+add-t19 : tie.Need-add-t19
+add-t19 c =
     let w = c .before .before .before .before .before .before .before in
     let s = at-start (w .before .before) in
-    omega (arith, within-most (s .args .t1) (whole w .1 .0))
-
-enum-told-6 : tie.Need-enum-told-6
-enum-told-6 c = search needs
+    omega (arith, within-most (s .args .t1 .kept) (s .args .t1 .count) (whole w .0))
 
 settle-requires : tie.Need-settle-requires
 unfolding keptBytes
 settle-requires c κs =
     let w = c .before .before in
     let s = at-start (w .before .before) in
-    ((kept-size s, within-most (s .args .t1) (falls w .1 .0), falls w .0), falls w .1 .1)
+    ((kept-size s, within-most (s .args .t1 .kept) (s .args .t1 .count) (falls w .0), falls w .1), falls w .2)
 
 returns : tie.Need-returns
 returns c =
     let s = at-start (c .before .before) in
-    call-bad (s .args .t1) (byte (s .args .b)) (s .args .out .now) (subst (Decides _ _ _) (c .enum-told .given .1) (c .before .before .decide .ensures))
+    call-bad (s .args .t1) (byte (s .args .b)) (s .args .out .now) (says (c .before .before) Bad (c .enum-told .given .1))
 
 returns-2 : tie.Need-returns-2
 returns-2 c =
     let s = at-start (c .before .before) in
-    let w : Decides (s .args .t1) (s .args .b) (length (s .args .out .now)) Short =
-    subst (Decides _ _ _) (c .enum-told2 .given .1) (c .before .before .decide .ensures) in
+    let w : Says s Short = says (c .before .before) Short (c .enum-told2 .given .1) in
     call-short (s .args .t1) (byte (s .args .b)) (s .args .out .now) (w .0) (w .1)
 
 returns-3 : tie.Need-returns-3
+unfolding keptBytes
 returns-3 c =
     let s = at-start (c .before .before) in
     let w = skips c in
-    call-skips (s .args .t1) (s .args .b) (s .args .out .now) (w .1 .0) (w .0) (w .1 .1) (w .1 .2)
+    call-skips (s .args .t1) (s .args .b) (s .args .out .now) (w .0) (w .1) (w .3) (w .2)
 
 returns-4 : tie.Need-returns-4
+unfolding keptBytes
 returns-4 c =
     let s = at-start (c .before .before) in
     let w = grows c in
-    call-grows (s .args .t1) (s .args .b) (s .args .out .now) (w .1 .0) (w .0) (kept-size s) (w .1 .1)
-
-same-length : tie.Need-same-length
-same-length c = search needs
+    call-grows (s .args .t1) (s .args .b) (s .args .out .now) (w .0) (w .1) (kept-size s) (w .2)
 
 returns-5 : tie.Need-returns-5
 unfolding keptBytes
@@ -126,11 +111,8 @@ returns-5 c =
     let e = c .before .before .before .before .before .before .before in
     let s = at-start (e .before .before) in
     let w = whole e in
-    call-whole (s .args .t1) (s .args .b) (s .args .out .now) (w .1 .0) (w .0) (kept-size s) (w .1 .1) (c .before .before .join .last .1 .1 .1 .0)
+    call-whole (s .args .t1) (s .args .b) (s .args .out .now) (w .0) (w .1) (kept-size s) (w .2) (c .before .before .join .last .1 .1 .1 .0)
     (c .before .before .join .ensures)
-
-same-length-2 : tie.Need-same-length-2
-same-length-2 c = search needs
 
 returns-6 : tie.Need-returns-6
 unfolding keptBytes
@@ -138,30 +120,30 @@ returns-6 c =
     let e = c .before .before .before .before .before in
     let s = at-start (e .before .before) in
     let w = falls e in
-    call-falls (s .args .t1) (s .args .b) (s .args .out .now) (w .1 .0) (w .0) (c .before .before .settle .last .0) (c .before .before .settle .last .1 .1 .1 .0)
+    call-falls (s .args .t1) (s .args .b) (s .args .out .now) (w .0) (w .1) (c .before .before .settle .last .0) (c .before .before .settle .last .1 .1 .1 .0)
     (c .before .before .settle .result) (c .before .before .settle .ensures)
 
 pub byte-spec : {M : Type 1} → statement M
 byte-spec =
     tie.close
     (tie.spec
-    decide-requires
-    enum-told
-    enum-told-2
-    enum-told-3
-    enum-told-4
+    (λ c κs. search needs)
+    (λ c. search needs)
+    (λ c. search needs)
+    (λ c. search needs)
+    (λ c. search needs)
     element-write-self
     add-self
-    enum-told-5
+    (λ c. search needs)
     join-requires
-    add-t20
-    enum-told-6
+    add-t19
+    (λ c. search needs)
     settle-requires
     returns
     returns-2
     returns-3
     returns-4
-    same-length
+    (λ c. search needs)
     returns-5
-    same-length-2
+    (λ c. search needs)
     returns-6)

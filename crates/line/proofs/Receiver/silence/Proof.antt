@@ -6,9 +6,10 @@ use native.Mathlib.Omega.{arith}
 use borrow.Author.Needs.{needs}
 use borrow.Author.Tests.{not-true, not-false}
 use lib.ListN.{length}
-use Rattle.line.specs.Line.{silence}
+use Rattle.line_terms.specs.Line.{silence}
 use Rattle.line.specs.Receiver.{withinRange, keptBytes}
-use Rattle.line.specs.StepLaws.{within-most, call-bad, call-short, call-silent}
+use Rattle.line_verdict.specs.DecidedLaws.{within-most}
+use Rattle.line.specs.StepLaws.{call-bad, call-short, call-silent}
 use Rattle.line.proofs.Receiver.silence.Statement.{statement}
 use Rattle.line.proofs.Receiver.silence.Tie as tie
 
@@ -17,14 +18,11 @@ kept-size : (s : tie.Start) → length (s .args .t1 .kept) ≡ 211
 kept-size s = search needs
 
 abbrev at-start : tie.After-within-range → tie.Start
-at-start c = c .before .before .before .before .before
+at-start c = c .before .before .before .before
 
 -- past the first test the receiver is within its range
 good : (c : tie.Else1) → withinRange (at-start (c .before) .args .t1) ≡ true
 good c = sym (c .before .within-range .ensures) ∙ not-false _ (c .if1 .left)
-
-within-range-requires : tie.Need-within-range-requires
-within-range-requires c κs = search needs
 
 returns : tie.Need-returns
 returns c =
@@ -40,13 +38,10 @@ give-up-requires : tie.Need-give-up-requires
 give-up-requires c κs =
     let e = c .before .before .before .before in
     let s = at-start (e .before .before) in
-    let most : s .args .t1 .count ≤ 211 = within-most (s .args .t1) (good (e .before)) in
+    let most : s .args .t1 .count ≤ 211 = within-most (s .args .t1 .kept) (s .args .t1 .count) (good (e .before)) in
     let size : length (s .args .t1 .kept) ≡ 211 = kept-size s in
     let roomy : 212 ≤ length (s .args .out .now) = e .if2 .left in
     (omega arith, omega arith)
-
-same-length : tie.Need-same-length
-same-length c = search needs
 
 returns-3 : tie.Need-returns-3
 unfolding keptBytes
@@ -59,4 +54,4 @@ returns-3 c =
 pub silence-spec : {M : Type 1} → statement M
 silence-spec =
     tie.close
-    (tie.spec within-range-requires returns returns-2 give-up-requires same-length returns-3)
+    (tie.spec (λ c κs. search needs) returns returns-2 give-up-requires (λ c. search needs) returns-3)

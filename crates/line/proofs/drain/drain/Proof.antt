@@ -3,14 +3,14 @@
 use Prim.Native.Nat.{ℕ, _≤_, _+_, _-_}
 use mathlib.Core.Path.{_≡_, ap, sym, _∙_, subst}
 use borrow.Rule.Slice.PartMut.{putMid}
-use Rattle.line.specs.Scan.{settled}
+use Rattle.line_terms.specs.Scan.{settled}
 use mathlib.Core.List.{List}
 use native.Mathlib.Omega.{arith}
 use borrow.Author.Needs.{needs}
 use borrow.Author.Tests.{not-true, not-false}
 use lib.ListN.{length, take, drop, length-take, length-drop}
-use Rattle.frame.specs.MemoryLaws.{copied}
-use Rattle.frame.specs.Memory.{over}
+use Rattle.laws.specs.MemoryLaws.{copied}
+use Rattle.laws.specs.Memory.{over}
 use Rattle.frame.specs.Recognition.{recognised}
 use Rattle.frame.specs.declared.Recognised.the-variants.{Whole}
 use Rattle.line.specs.DrainLaws.{rest-part, Draining, draining-start, draining-next, draining-whole, draining-end, draining-open, draining-closed, whole-fits, whole-least}

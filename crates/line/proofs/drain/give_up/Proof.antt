@@ -1,5 +1,5 @@
 -- It is draining from the first place on, with a silence behind.
-use Prim.Native.Nat.{_-_, zero-le}
+use Prim.Native.Nat.{zero-le}
 use mathlib.Core.Path.{sym}
 use native.Mathlib.Omega.{arith}
 use borrow.Author.Needs.{needs}
@@ -14,11 +14,8 @@ slice-aggregate-drain c = sym (length-take-le _ _ (omega arith))
 drain-requires : tie.Need-drain-requires
 drain-requires c κs = (zero-le, simp length-take (omega arith))
 
-same-length : tie.Need-same-length
-same-length c = search needs
-
 returns : tie.Need-returns
 returns c = c .before .before .drain .ensures
 
 pub give-up-spec : {M : Type 1} → statement M
-give-up-spec = tie.close (tie.spec slice-aggregate-drain drain-requires same-length returns)
+give-up-spec = tie.close (tie.spec slice-aggregate-drain drain-requires (λ c. search needs) returns)

@@ -6,8 +6,8 @@ use native.Mathlib.Omega.{arith}
 use borrow.Author.Needs.{needs}
 use lib.ListN.{take, set, length-take}
 use lib.Seq.{length-take-le}
-use Rattle.frame.specs.Memory.{over}
-use Rattle.frame.specs.MemoryLaws.{over-next, copied}
+use Rattle.laws.specs.Memory.{over}
+use Rattle.laws.specs.MemoryLaws.{over-next, copied}
 use Rattle.line.proofs.drain.join.Statement.{statement}
 use Rattle.line.proofs.drain.join.Tie as tie
 
@@ -16,12 +16,6 @@ slice-aggregate-copy c = sym (length-take-le _ _ (omega arith))
 
 copy-requires : tie.Need-copy-requires
 copy-requires c κs = simp length-take (omega arith)
-
-slice-write-out : tie.Need-slice-write-out
-slice-write-out c = search needs
-
-same-length : tie.Need-same-length
-same-length c = search needs
 
 returns : tie.Need-returns
 returns c =
@@ -34,4 +28,4 @@ returns c =
 
 pub join-spec : {M : Type 1} → statement M
 join-spec =
-    tie.close (tie.spec slice-aggregate-copy copy-requires slice-write-out same-length returns)
+    tie.close (tie.spec slice-aggregate-copy copy-requires (λ c. search needs) (λ c. search needs) returns)

@@ -8,7 +8,7 @@ use borrow.Author.Needs.{needs}
 use lib.ListN.{length, take, drop, replicate, length-take, length-append, length-drop}
 use lib.Seq.{length-take-le, take-at}
 use Rattle.line.specs.DrainLaws.{drained-settles}
-use Rattle.frame.specs.MemoryLaws.{over-length, copied}
+use Rattle.laws.specs.MemoryLaws.{over-length, copied}
 use Rattle.line.proofs.drain.settle.Statement.{statement}
 use Rattle.line.proofs.drain.settle.Tie as tie
 
@@ -47,18 +47,6 @@ stopped c =
     let n : length (take (at-start j .args .count + 1) (line j)) ≡ at-start j .args .count + 1 = ap length (front j) ∙ bytes-size (at-start j) in
     (omega (arith, c .drain .ensures .later), rw n at (c .drain .ensures .within))
 
-slice-aggregate-join : tie.Need-slice-aggregate-join
-slice-aggregate-join c = search needs
-
-join-requires : tie.Need-join-requires
-join-requires c κs = search needs
-
-add-n : tie.Need-add-n
-add-n c = search needs
-
-array-share-prefix-line : tie.Need-array-share-prefix-line
-array-share-prefix-line c = search needs
-
 slice-aggregate-drain : tie.Need-slice-aggregate-drain
 slice-aggregate-drain c =
     let j = c .before .before in
@@ -76,9 +64,6 @@ sub-copy c = stopped (c .before .before) .1
 part-copy-start : tie.Need-part-copy-start
 part-copy-start c = stopped (c .before .before .before) .1
 
-part-copy-end : tie.Need-part-copy-end
-part-copy-end c = search needs
-
 copy-requires : tie.Need-copy-requires
 copy-requires c κs =
     let d = c .before .before .before .before .before in
@@ -88,9 +73,6 @@ copy-requires c κs =
 
 sub-t18 : tie.Need-sub-t18
 sub-t18 c = stopped (c .before .before .before .before .before .before) .1
-
-same-length : tie.Need-same-length
-same-length c = search needs
 
 returns : tie.Need-returns
 returns c =
@@ -106,16 +88,16 @@ pub settle-spec : {M : Type 1} → statement M
 settle-spec =
     tie.close
     (tie.spec
-    slice-aggregate-join
-    join-requires
-    add-n
-    array-share-prefix-line
+    (λ c. search needs)
+    (λ c κs. search needs)
+    (λ c. search needs)
+    (λ c. search needs)
     slice-aggregate-drain
     drain-requires
     sub-copy
     part-copy-start
-    part-copy-end
+    (λ c. search needs)
     copy-requires
     sub-t18
-    same-length
+    (λ c. search needs)
     returns)

@@ -6,7 +6,7 @@ use native.Mathlib.Omega.{arith}
 use borrow.Author.Needs.{needs}
 use lib.ListN.{length}
 use lib.Seq.{length-take-le}
-use Rattle.frame.specs.Memory.{outcome}
+use Rattle.laws.specs.Memory.{outcome}
 use Rattle.recording.specs.declared.BlockAnswer.{BlockAnswer}
 use Rattle.recording.specs.BlockLaws.{Delivers, read-delivers, delivers-within}
 use Rattle.listing.specs.BlockLaws.{short-refused, reading-refused, delivers-asked, delivers-listed}
@@ -32,23 +32,11 @@ delivers c =
 returns : tie.Need-returns
 returns c = short-refused _ _ _ _ (omega arith)
 
-read-block-requires : tie.Need-read-block-requires
-read-block-requires c κs = search needs
-
-enum-known-read : tie.Need-enum-known-read
-enum-known-read c = search needs
-
-same-length : tie.Need-same-length
-same-length c = search needs
-
 returns-2 : tie.Need-returns-2
 returns-2 c =
     let told = c .before in
     let call = told .before .before .before .before in
     reading-refused _ _ _ _ _ _ (fits (call .before .before)) (ap (λ (r : BlockAnswer). outcome r (call .read-block .last .1 .1 .0)) (sym (told .read .given .1)) ∙ call .read-block .ensures)
-
-enum-known-read-2 : tie.Need-enum-known-read-2
-enum-known-read-2 c = search needs
 
 slice-reshare-prefix-write-lines : tie.Need-slice-reshare-prefix-write-lines
 slice-reshare-prefix-write-lines c = delivers-within (delivers (c .before)) .memory
@@ -62,12 +50,6 @@ write-lines-requires c κs =
     let left = told .before .before .before .before .before .before in
     delivers-asked (delivers told) (left .before .before .before .before .args .text .now) (fits left)
 
-same-length-2 : tie.Need-same-length-2
-same-length-2 c = search needs
-
-same-length-3 : tie.Need-same-length-3
-same-length-3 c = search needs
-
 returns-3 : tie.Need-returns-3
 returns-3 c =
     let written = c .before .before in
@@ -79,14 +61,14 @@ list-block-spec =
     tie.close
     (tie.spec
     returns
-    read-block-requires
-    enum-known-read
-    same-length
+    (λ c κs. search needs)
+    (λ c. search needs)
+    (λ c. search needs)
     returns-2
-    enum-known-read-2
+    (λ c. search needs)
     slice-reshare-prefix-write-lines
     slice-aggregate-write-lines
     write-lines-requires
-    same-length-2
-    same-length-3
+    (λ c. search needs)
+    (λ c. search needs)
     returns-3)

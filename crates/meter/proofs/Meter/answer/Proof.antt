@@ -1,4 +1,4 @@
--- The tests go in the order of `answered`; what a frame comes to is what `treat` decides, and `deliver` answers it.
+-- The tests go in the order of `answered`; what a frame then comes to is `treat`'s.
 use mathlib.Core.Path.{_≡_, sym, _∙_}
 use mathlib.Core.Bool.{true}
 use borrow.Author.Needs.{needs}
@@ -18,32 +18,17 @@ ranges c = sym (c .before .is-within-ranges .ensures) ∙ not-false _ (c .if1 .l
 one : (c : tie.Else3) → exactlyOne (at-start (c .before .before .before) .args .bytes .now) ≡ true
 one c = sym (c .before .is-frame .ensures) ∙ not-false _ (c .if3 .left)
 
-is-within-ranges-requires : tie.Need-is-within-ranges-requires
-is-within-ranges-requires c κs = search needs
-
-refused-requires : tie.Need-refused-requires
-refused-requires c κs = search needs
-
 returns : tie.Need-returns
 unfolding answered
 returns c =
     let t = c .before in
     rw (sym (t .before .is-within-ranges .ensures) ∙ not-true _ (t .if1 .taken), c .refused .ensures)
 
-refused-requires-2 : tie.Need-refused-requires-2
-refused-requires-2 c κs = search needs
-
 returns-2 : tie.Need-returns-2
 unfolding answered
 returns-2 c =
     let t = c .before in
     rw (ranges (t .before), lt-leb _ _ (t .if2 .taken), c .refused2 .ensures)
-
-is-frame-requires : tie.Need-is-frame-requires
-is-frame-requires c κs = search needs
-
-refused-requires-3 : tie.Need-refused-requires-3
-refused-requires-3 c κs = search needs
 
 returns-3 : tie.Need-returns-3
 unfolding answered
@@ -53,36 +38,28 @@ returns-3 c =
     rw (ranges (e .before), le-leb _ _ (e .if2 .left), sym (t .before .is-frame .ensures) ∙ not-true _ (t .if3 .taken), c .refused3 .ensures)
 
 treat-requires : tie.Need-treat-requires
-treat-requires c κs = one c
-
-deliver-requires : tie.Need-deliver-requires
-deliver-requires c κs = search needs
-
-same-length : tie.Need-same-length
-same-length c = search needs
+treat-requires c κs = (one (c .before), c .before .before .before .if2 .left)
 
 returns-4 : tie.Need-returns-4
 unfolding answered
 returns-4 c =
-    let d = c .before .before in
-    let t = d .before .before in
-    let e = t .before in
+    let t = c .before .before in
+    let e = t .before .before in
     let l = e .before .before in
-    rw (ranges (l .before), le-leb _ _ (l .if2 .left), one e, ← t .treat .ensures .meaning) (d .deliver .ensures)
+    rw (ranges (l .before), le-leb _ _ (l .if2 .left), one e) (t .treat .ensures)
 
 pub answer-spec : {M : Type 1} → statement M
 answer-spec =
     tie.close
     (tie.spec
-    is-within-ranges-requires
-    refused-requires
+    (λ c κs. search needs)
+    (λ c κs. search needs)
     returns
-    refused-requires-2
+    (λ c κs. search needs)
     returns-2
-    is-frame-requires
-    refused-requires-3
+    (λ c κs. search needs)
+    (λ c κs. search needs)
     returns-3
     treat-requires
-    deliver-requires
-    same-length
+    (λ c. search needs)
     returns-4)

@@ -1,100 +1,10 @@
--- The tests of the ranges, of the direction and of the rate go in the order of `pulsedBy`.
-use mathlib.Core.Path.{_≡_, sym, _∙_}
-use mathlib.Core.Bool.{true, _&&_}
-use lib.Dec.{leb}
+-- The ranges are tested, and what was found is handed on.
 use borrow.Author.Needs.{needs}
-use borrow.Author.Tests.{not-true, not-false, le-leb, lt-leb, eq-eqb, ne-eqb}
-use Rattle.energy.specs.Energies.{isRate}
-use Rattle.meter.specs.Meter.{withinRanges}
-use Rattle.meter.specs.Host.{pulsedBy}
 use Rattle.meter.proofs.Meter.pulse.Statement.{statement}
 use Rattle.meter.proofs.Meter.pulse.Tie as tie
 
--- within the ranges
-ranges : (c : tie.Else1) → let a = c .before .before .args in withinRanges (a .self) (a .forward) (a .reverse) ≡ true
-ranges c = sym (c .before .is-within-ranges .ensures) ∙ not-false _ (c .if1 .left)
-
--- a direction and a rate that may be counted
-good : (c : tie.Else3) → let a = c .before .before .before .before .before .args in (leb (a .direction) 1 && isRate (a .rate)) ≡ true
-good c = rw (le-leb _ _ (c .before .before .if2 .left)) (sym (c .before .is-rate .ensures) ∙ not-false _ (c .if3 .left))
-
-is-within-ranges-requires : tie.Need-is-within-ranges-requires
-is-within-ranges-requires c κs = search needs
-
-hand-back-requires : tie.Need-hand-back-requires
-hand-back-requires c κs = search needs
-
 returns : tie.Need-returns
-unfolding pulsedBy
-returns c =
-    let t = c .before in
-    rw (sym (t .before .is-within-ranges .ensures) ∙ not-true _ (t .if1 .taken)) (c .hand-back .ensures)
-
-hand-back-requires-2 : tie.Need-hand-back-requires-2
-hand-back-requires-2 c κs = search needs
-
-returns-2 : tie.Need-returns-2
-unfolding pulsedBy
-returns-2 c =
-    let t = c .before in
-    rw (ranges (t .before), lt-leb _ _ (t .if2 .taken)) (c .hand-back2 .ensures)
-
-is-rate-requires : tie.Need-is-rate-requires
-is-rate-requires c κs = search needs
-
-hand-back-requires-3 : tie.Need-hand-back-requires-3
-hand-back-requires-3 c κs = search needs
-
-returns-3 : tie.Need-returns-3
-unfolding pulsedBy
-returns-3 c =
-    let t = c .before in
-    let e = t .before .before in
-    rw (ranges (e .before), le-leb _ _ (e .if2 .left), sym (t .before .is-rate .ensures) ∙ not-true _ (t .if3 .taken)) (c .hand-back3 .ensures)
-
-pulsed-requires : tie.Need-pulsed-requires
-pulsed-requires c κs = search needs
-
-hand-back-requires-4 : tie.Need-hand-back-requires-4
-hand-back-requires-4 c κs = search needs
-
-returns-4 : tie.Need-returns-4
-unfolding pulsedBy
-returns-4 c =
-    let p = c .before in
-    let t = p .before in
-    let e = t .before in
-    rw (ranges (e .before .before .before), good e, eq-eqb _ _ (t .if4 .taken), ← p .pulsed .ensures) (c .hand-back4 .ensures)
-
-pulsed-requires-2 : tie.Need-pulsed-requires-2
-pulsed-requires-2 c κs = search needs
-
-hand-back-requires-5 : tie.Need-hand-back-requires-5
-hand-back-requires-5 c κs = search needs
-
-returns-5 : tie.Need-returns-5
-unfolding pulsedBy
-returns-5 c =
-    let p = c .before in
-    let t = p .before in
-    let e = t .before in
-    rw (ranges (e .before .before .before), good e, ne-eqb _ _ (t .if4 .left), ← p .pulsed2 .ensures) (c .hand-back5 .ensures)
+returns c = rw (← c .before .is-within-ranges .ensures) (c .pulse .ensures)
 
 pub pulse-spec : {M : Type 1} → statement M
-pulse-spec =
-    tie.close
-    (tie.spec
-    is-within-ranges-requires
-    hand-back-requires
-    returns
-    hand-back-requires-2
-    returns-2
-    is-rate-requires
-    hand-back-requires-3
-    returns-3
-    pulsed-requires
-    hand-back-requires-4
-    returns-4
-    pulsed-requires-2
-    hand-back-requires-5
-    returns-5)
+pulse-spec = tie.close (tie.spec (λ c κs. search needs) (λ c κs. search needs) returns)

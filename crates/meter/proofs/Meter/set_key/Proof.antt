@@ -6,9 +6,6 @@ use Rattle.meter.specs.Host.{keySet}
 use Rattle.meter.proofs.Meter.set_key.Statement.{statement}
 use Rattle.meter.proofs.Meter.set_key.Tie as tie
 
-is-within-ranges-requires : tie.Need-is-within-ranges-requires
-is-within-ranges-requires c κs = search needs
-
 returns : tie.Need-returns
 unfolding keySet
 returns c = rw (sym (c .before .is-within-ranges .ensures) ∙ not-true _ (c .if1 .taken))
@@ -18,4 +15,4 @@ unfolding keySet
 returns-2 c = rw (sym (c .before .is-within-ranges .ensures) ∙ not-false _ (c .if1 .left))
 
 pub set-key-spec : {M : Type 1} → statement M
-set-key-spec = tie.close (tie.spec is-within-ranges-requires returns returns-2)
+set-key-spec = tie.close (tie.spec (λ c κs. search needs) returns returns-2)

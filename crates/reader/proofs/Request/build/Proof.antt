@@ -6,7 +6,8 @@ use native.Mathlib.Omega.{arith}
 use borrow.Author.Needs.{needs}
 use borrow.Author.Tests.{le-leb, lt-leb}
 use lib.ListN.{length}
-use Rattle.reader.specs.Allowed.{Sized, isAdmitted, isAllowed}
+use Rattle.reader_allowed.specs.Allowed.{isAdmitted}
+use Rattle.reader.specs.Allowed.{Sized, isAllowed}
 use Rattle.reader.specs.Building.{sentData, built}
 use Rattle.reader.specs.BuildingLaws.{allowed-counts, request-length, payload-count, built-written}
 use Rattle.reader.proofs.Request.build.Statement.{statement}
@@ -22,7 +23,7 @@ start-of c = c .before .before .before .before .before
 -- the request is allowed
 allowed : (c : tie.After-enum-told) → isAllowed (start-of c .args .self) ≡ true
 unfolding isAllowed
-allowed c = ap isAdmitted (sym (c .before .before .admit .ensures) ∙ c .enum-told .given .1)
+allowed c = ap isAdmitted (sym (c .before .before .admission-of .ensures) ∙ c .enum-told .given .1)
 
 -- its data fit their array
 few : (c : tie.After-enum-told) → let r = start-of c .args .self in length (sentData (r .action) r) ≤ 50
@@ -35,26 +36,11 @@ returns : tie.Need-returns
 unfolding built
 returns c = rw (lt-leb _ _ (c .if1 .taken))
 
-admit-requires : tie.Need-admit-requires
-admit-requires c κs = search needs
-
-enum-told : tie.Need-enum-told
-enum-told c = search needs
-
-enum-told-2 : tie.Need-enum-told-2
-enum-told-2 c = search needs
-
 returns-2 : tie.Need-returns-2
 unfolding built isAllowed
 returns-2 c =
     let at-admit = c .before .before in
-    rw (le-leb _ _ (at-admit .before .if1 .left), ap isAdmitted (sym (at-admit .admit .ensures) ∙ c .enum-told2 .given .1))
-
-sent-to-requires : tie.Need-sent-to-requires
-sent-to-requires c κs = search needs
-
-control-of-requires : tie.Need-control-of-requires
-control-of-requires c κs = search needs
+    rw (le-leb _ _ (at-admit .before .if1 .left), ap isAdmitted (sym (at-admit .admission-of .ensures) ∙ c .enum-told2 .given .1))
 
 payload-of-requires : tie.Need-payload-of-requires
 payload-of-requires c κs = allowed-counts _ (allowed (c .before .before .before))
@@ -64,9 +50,6 @@ write-request-requires c κs =
     let p = c .before in
     let t = told-of p in
     (omega (arith, payload-count _ (p .payload-of .ensures), few t), t .before .before .before .if1 .left)
-
-same-length : tie.Need-same-length
-same-length c = search needs
 
 returns-3 : tie.Need-returns-3
 returns-3 c =
@@ -82,13 +65,13 @@ build-spec =
     tie.close
     (tie.spec
     returns
-    admit-requires
-    enum-told
-    enum-told-2
+    (λ c κs. search needs)
+    (λ c. search needs)
+    (λ c. search needs)
     returns-2
-    sent-to-requires
-    control-of-requires
+    (λ c κs. search needs)
+    (λ c κs. search needs)
     payload-of-requires
     write-request-requires
-    same-length
+    (λ c. search needs)
     returns-3)

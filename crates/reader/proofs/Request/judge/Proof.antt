@@ -8,15 +8,17 @@ use borrow.Author.Needs.{needs}
 use borrow.Author.Tests.{le-leb, lt-leb, not-true, not-false}
 use lib.ListN.{length, take, getD}
 use lib.Seq.{length-take-le}
+use Rattle.laws.specs.ChecksLaws.{Held, all-left, check-holds, check-fails, no-check-left}
 use Rattle.frame.specs.Frame.{addressOf, controlOf, lengthOf, dataOf}
-use Rattle.frame.specs.PartsLaws.{one-spans, one-most, data-length, address-field, data-fits, data-front}
 use Rattle.frame.specs.Recognition.{exactlyOne}
-use Rattle.item.specs.ChecksLaws.{Held, all-left, check-holds, check-fails, no-check-left}
-use Rattle.reader.specs.Allowed.{isAdmitted, isAllowed}
-use Rattle.reader.specs.Judging.{firstChecks, replyValue, verdict, judgementOf}
+use Rattle.frame_parts.specs.PartsLaws.{one-spans, one-most, data-length, address-field, data-fits, data-front}
+use Rattle.reader_judgement.specs.Judging.{replyValue, verdict}
+use Rattle.reader_judgement.specs.declared.Judgement.{Judgement}
+use Rattle.reader_judgement.specs.declared.Judgement.the-variants.{Refused}
+use Rattle.reader_allowed.specs.Allowed.{isAdmitted}
+use Rattle.reader.specs.Allowed.{isAllowed}
+use Rattle.reader.specs.Judging.{isAnswer, firstChecks, judgementOf}
 use Rattle.reader.specs.JudgingLaws.{verdict-fits, judged-by}
-use Rattle.reader.specs.declared.Judgement.{Judgement}
-use Rattle.reader.specs.declared.Judgement.the-variants.{Refused}
 use Rattle.reader.specs.declared.Request.{Request}
 use Rattle.reader.proofs.Request.judge.Statement.{statement}
 use Rattle.reader.proofs.Request.judge.Tie as tie
@@ -49,14 +51,14 @@ room-of c = c .before .before .before
 abbrev allowed-of : tie.Else2 → tie.After-enum-told
 allowed-of c = c .before .before
 
-abbrev frame-of : tie.Else3 → tie.Else2
-frame-of c = c .before .before
+abbrev frame-of : tie.After-is-answer → tie.Else2
+frame-of c = c .before .before .before .before
 
 abbrev parts-of : tie.After-data-of → tie.Else2
-parts-of c = frame-of (c .before)
+parts-of c = frame-of (c .before .before)
 
 abbrev data-of : tie.After-judge-data → tie.After-data-of
-data-of c = c .before .before .before .before .before
+data-of c = c .before .before .before
 
 abbrev entry : tie.Else2 → tie.Start
 entry c = start-of (room-of (allowed-of c))
@@ -69,7 +71,7 @@ room c = check-holds all-left (le-leb 196 _ (c .if1 .left))
 -- an allowed request
 allowed : (c : tie.After-enum-told) → Passed (start-of (room-of c)) 2
 unfolding firstChecks isAllowed
-allowed c = check-holds (room (room-of c)) (ap isAdmitted (sym (c .before .before .admit .ensures) ∙ c .enum-told .given .1))
+allowed c = check-holds (room (room-of c)) (ap isAdmitted (sym (c .before .before .admission-of .ensures) ∙ c .enum-told .given .1))
 
 -- exactly one frame
 one : (c : tie.Else2) → exactlyOne (bytes (entry c)) ≡ true
@@ -80,9 +82,13 @@ unfolding firstChecks
 one-frame c = check-holds (allowed (allowed-of c)) (one c)
 
 -- an answer to the request
-answers : (c : tie.Else3) → let s = entry (frame-of c) in decision s ≡ judgementOf (request s) (bytes s) (memory s)
+answer-test : (c : tie.After-is-answer) → isAnswer (request (entry (frame-of c))) (bytes (entry (frame-of c))) ≡ c .is-answer .result
+unfolding isAnswer controlOf
+answer-test c = rw (sym (address-field _ (one (frame-of c))), ← c .before .address-of .ensures) (sym (c .is-answer .ensures))
+
+answers : (c : tie.Else3) → let s = entry (frame-of (c .before)) in decision s ≡ judgementOf (request s) (bytes s) (memory s)
 unfolding firstChecks judgementOf
-answers c = no-check-left (check-holds (one-frame (frame-of c)) (sym (c .before .is-answer .ensures) ∙ not-false _ (c .if3 .left)))
+answers c = no-check-left (check-holds (one-frame (frame-of (c .before))) (answer-test (c .before) ∙ not-false _ (c .if3 .left)))
 
 -- the data fit the array, and are its front
 fits : (c : tie.After-data-of) → getD (bytes (entry (parts-of c))) 9 0 ≤ length (c .data-of .result)
@@ -97,67 +103,41 @@ front c = rw (c .data-of .ensures) (data-front _ (one (parts-of c)))
 decided : (c : tie.After-judge-data) → c .judge-data .result ≡ decision (entry (parts-of (data-of c)))
 unfolding controlOf
 decided c =
-    rw (← front (data-of c), sym (address-field _ (one (parts-of (data-of c)))), ← c .before .before .before .address-of .ensures) (c .judge-data .ensures)
+    let d = data-of c in
+    rw (← front d, sym (address-field _ (one (parts-of d))), ← d .before .before .before .address-of .ensures) (c .judge-data .ensures)
 
 returns : tie.Need-returns
 unfolding firstChecks judgementOf
 returns c = judged-by _ _ _ (check-fails all-left (lt-leb 196 _ (c .if1 .taken)))
 
-admit-requires : tie.Need-admit-requires
-admit-requires c κs = search needs
-
-enum-told : tie.Need-enum-told
-enum-told c = search needs
-
-enum-told-2 : tie.Need-enum-told-2
-enum-told-2 c = search needs
-
 returns-2 : tie.Need-returns-2
 unfolding firstChecks judgementOf isAllowed
 returns-2 c =
     let a = c .before .before in
-    judged-by _ _ _ (check-fails (room (a .before)) (ap isAdmitted (sym (a .admit .ensures) ∙ c .enum-told2 .given .1)))
-
-is-frame-requires : tie.Need-is-frame-requires
-is-frame-requires c κs = search needs
+    judged-by _ _ _ (check-fails (room (a .before)) (ap isAdmitted (sym (a .admission-of .ensures) ∙ c .enum-told2 .given .1)))
 
 returns-3 : tie.Need-returns-3
 unfolding firstChecks judgementOf
 returns-3 c = judged-by _ _ _ (check-fails (allowed (c .before .before)) (sym (c .before .is-frame .ensures) ∙ not-true _ (c .if2 .taken)))
 
-is-answer-requires : tie.Need-is-answer-requires
-is-answer-requires c κs = one c
+shared-slice-read-control : tie.Need-shared-slice-read-control
+shared-slice-read-control c = omega (arith, one-spans _ (one (c .before .before)))
 
 returns-4 : tie.Need-returns-4
 unfolding firstChecks judgementOf
-returns-4 c = judged-by _ _ _ (check-fails (one-frame (c .before .before)) (sym (c .before .is-answer .ensures) ∙ not-true _ (c .if3 .taken)))
-
-data-of-requires : tie.Need-data-of-requires
-data-of-requires c κs = search needs
+returns-4 c = judged-by _ _ _ (check-fails (one-frame (frame-of (c .before))) (answer-test (c .before) ∙ not-true _ (c .if3 .taken)))
 
 shared-slice-read-length : tie.Need-shared-slice-read-length
 shared-slice-read-length c = omega (arith, one-spans _ (one (parts-of (c .before))))
 
 cast-length : tie.Need-cast-length
-cast-length c = omega (arith, c .shared-slice-known2 .given 9)
-
-address-of-requires : tie.Need-address-of-requires
-address-of-requires c κs = search needs
-
-shared-slice-read-judge-data : tie.Need-shared-slice-read-judge-data
-shared-slice-read-judge-data c = omega (arith, one-spans _ (one (parts-of (c .before .before .before))))
+cast-length c = omega (arith, c .shared-slice-known3 .given 9)
 
 array-share-prefix-meant : tie.Need-array-share-prefix-meant
-array-share-prefix-meant c = fits (c .before .before .before)
+array-share-prefix-meant c = fits (c .before)
 
 slice-aggregate-judge-data : tie.Need-slice-aggregate-judge-data
-slice-aggregate-judge-data c = sym (length-take-le _ _ (fits (c .before .before .before .before)))
-
-judge-data-requires : tie.Need-judge-data-requires
-judge-data-requires c κs = search needs
-
-value-start-requires : tie.Need-value-start-requires
-value-start-requires c κs = search needs
+slice-aggregate-judge-data c = sym (length-take-le _ _ (fits (c .before .before)))
 
 array-share-prefix-meant-2 : tie.Need-array-share-prefix-meant-2
 array-share-prefix-meant-2 c = fits (data-of (c .before))
@@ -173,9 +153,6 @@ deliver-requires c κs =
     rw (decided j, c .before .before .value-start .ensures, front d)
     (verdict-fits _ _ _ _ (omega (arith, one-most _ o, data-length _ o)) (room-of (allowed-of (parts-of d)) .if1 .left) _ _)
 
-same-length : tie.Need-same-length
-same-length c = search needs
-
 returns-5 : tie.Need-returns-5
 unfolding replyValue
 returns-5 c =
@@ -189,25 +166,25 @@ judge-spec =
     tie.close
     (tie.spec
     returns
-    admit-requires
-    enum-told
-    enum-told-2
+    (λ c κs. search needs)
+    (λ c. search needs)
+    (λ c. search needs)
     returns-2
-    is-frame-requires
+    (λ c κs. search needs)
     returns-3
-    is-answer-requires
+    shared-slice-read-control
+    (λ c κs. search needs)
+    (λ c κs. search needs)
     returns-4
-    data-of-requires
+    (λ c κs. search needs)
     shared-slice-read-length
     cast-length
-    address-of-requires
-    shared-slice-read-judge-data
     array-share-prefix-meant
     slice-aggregate-judge-data
-    judge-data-requires
-    value-start-requires
+    (λ c κs. search needs)
+    (λ c κs. search needs)
     array-share-prefix-meant-2
     slice-aggregate-deliver
     deliver-requires
-    same-length
+    (λ c. search needs)
     returns-5)

@@ -1,9 +1,9 @@
 -- The data are those of the action that was matched.
 use mathlib.Core.Path.{_≡_, refl, ap, sym, _∙_}
 use borrow.Author.Needs.{needs}
+use Rattle.reader_judgement.specs.declared.Action.{Action}
 use Rattle.reader.specs.Building.{sentData, payloadOf}
 use Rattle.reader.specs.BuildingLaws.{payload-is}
-use Rattle.reader.specs.declared.Action.{Action}
 use Rattle.reader.proofs.build.payload_of.Statement.{statement}
 use Rattle.reader.proofs.build.payload_of.Tie as tie
 
@@ -11,18 +11,6 @@ use Rattle.reader.proofs.build.payload_of.Tie as tie
 of-action : (s : tie.Start) (action : Action) → s .args .request .action ≡ action
     → payloadOf (sentData action (s .args .request)) ≡ payloadOf (sentData (s .args .request .action) (s .args .request))
 of-action s action e = ap (λ (a : Action). payloadOf (sentData a (s .args .request))) (sym e)
-
-enum-told : tie.Need-enum-told
-enum-told c = search needs
-
-read-payload-requires : tie.Need-read-payload-requires
-read-payload-requires c κs = search needs
-
-enum-told-2 : tie.Need-enum-told-2
-enum-told-2 c = search needs
-
-enum-told-3 : tie.Need-enum-told-3
-enum-told-3 c = search needs
 
 write-payload-requires : tie.Need-write-payload-requires
 write-payload-requires c κs = rw (c .enum-told3 .given .1) at (c .before .before .pre)
@@ -42,10 +30,10 @@ pub payload-of-spec : {M : Type 1} → statement M
 payload-of-spec =
     tie.close
     (tie.spec
-    enum-told
-    read-payload-requires
-    enum-told-2
-    enum-told-3
+    (λ c. search needs)
+    (λ c κs. search needs)
+    (λ c. search needs)
+    (λ c. search needs)
     write-payload-requires
     returns
     returns-2

@@ -4,24 +4,13 @@ use mathlib.Core.Path.{ap, sym, _∙_}
 use mathlib.Core.List.{List}
 use borrow.Author.Needs.{needs}
 use lib.ListN.{replicate}
-use Rattle.frame.specs.Memory.{over}
-use Rattle.frame.specs.MemoryLaws.{copied}
-use Rattle.reader.specs.Building.{identifierBytes}
-use Rattle.reader.specs.BuildingLaws.{identifier-four, payload-is}
+use Rattle.laws.specs.Memory.{over}
+use Rattle.laws.specs.MemoryLaws.{copied}
+use Rattle.item_identifier.specs.Identifier.{identifierBytes}
+use Rattle.item_identifier.specs.IdentifierLaws.{identifier-four}
+use Rattle.reader.specs.BuildingLaws.{payload-is}
 use Rattle.reader.proofs.build.read_payload.Statement.{statement}
 use Rattle.reader.proofs.build.read_payload.Tie as tie
-
-identifier-bytes-requires : tie.Need-identifier-bytes-requires
-identifier-bytes-requires c κs = search needs
-
-slice-aggregate-copy : tie.Need-slice-aggregate-copy
-slice-aggregate-copy c = search needs
-
-slice-aggregate-copy-2 : tie.Need-slice-aggregate-copy-2
-slice-aggregate-copy-2 c = search needs
-
-copy-requires : tie.Need-copy-requires
-copy-requires c κs = search needs
 
 returns : tie.Need-returns
 returns c =
@@ -38,8 +27,8 @@ pub read-payload-spec : {M : Type 1} → statement M
 read-payload-spec =
     tie.close
     (tie.spec
-    identifier-bytes-requires
-    slice-aggregate-copy
-    slice-aggregate-copy-2
-    copy-requires
+    (λ c κs. search needs)
+    (λ c. search needs)
+    (λ c. search needs)
+    (λ c κs. search needs)
     returns)

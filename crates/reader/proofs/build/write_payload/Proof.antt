@@ -7,12 +7,14 @@ use borrow.Author.Needs.{needs}
 use borrow.Rule.Slice.PartMut.{putMid}
 use lib.ListN.{length, take, drop, set, replicate, length-append, length-take, length-drop}
 use lib.Seq.{length-take-le}
-use Rattle.frame.specs.Memory.{over}
-use Rattle.frame.specs.MemoryLaws.{over-length, over-next, copied}
+use Rattle.laws.specs.Memory.{over}
+use Rattle.laws.specs.MemoryLaws.{over-length, over-next, copied}
+use Rattle.item_identifier.specs.Identifier.{identifierBytes}
+use Rattle.item_identifier.specs.IdentifierLaws.{identifier-four}
+use Rattle.reader_judgement.specs.declared.Action.the-variants.{WriteData}
 use Rattle.reader.specs.Allowed.{Sized, requestValue}
-use Rattle.reader.specs.Building.{identifierBytes, sentData}
-use Rattle.reader.specs.BuildingLaws.{identifier-four, write-parts, write-length, payload-is, copied-behind}
-use Rattle.reader.specs.declared.Action.the-variants.{WriteData}
+use Rattle.reader.specs.Building.{sentData}
+use Rattle.reader.specs.BuildingLaws.{write-parts, write-length, payload-is, copied-behind}
 use Rattle.reader.specs.declared.Request.{Request}
 use Rattle.reader.proofs.build.write_payload.Statement.{statement}
 use Rattle.reader.proofs.build.write_payload.Tie as tie
@@ -118,30 +120,6 @@ size xs p h = ap length p ∙ over-length xs zeros h
 room : (n k : ℕ) (xs : List ℕ) {m : List ℕ} → length xs ≡ n → m ≡ over xs zeros → n + k ≤ 50 → k ≤ length (take (50 - n) (drop n m))
 room n k xs e p h = let whole = size xs p (omega arith) in simp (length-take, length-drop) (omega arith)
 
-identifier-bytes-requires : tie.Need-identifier-bytes-requires
-identifier-bytes-requires c κs = search needs
-
-slice-aggregate-copy : tie.Need-slice-aggregate-copy
-slice-aggregate-copy c = search needs
-
-slice-aggregate-copy-2 : tie.Need-slice-aggregate-copy-2
-slice-aggregate-copy-2 c = search needs
-
-copy-requires : tie.Need-copy-requires
-copy-requires c κs = search needs
-
-array-write-meant : tie.Need-array-write-meant
-array-write-meant c = search needs
-
-slice-aggregate-copy-3 : tie.Need-slice-aggregate-copy-3
-slice-aggregate-copy-3 c = search needs
-
-sub-copy : tie.Need-sub-copy
-sub-copy c = search needs
-
-part-meant-start : tie.Need-part-meant-start
-part-meant-start c = search needs
-
 part-meant-end : tie.Need-part-meant-end
 part-meant-end c =
     let at-copy = c .before .before in
@@ -153,15 +131,6 @@ copy-requires-2 c κs =
     let at-copy = c .before .before .before in
     let s = start-of at-copy in
     room 5 _ (to-level (s .args .request)) (level-length (s .args .request)) (level-there at-copy) (omega (arith, sized s .password))
-
-slice-aggregate-copy-4 : tie.Need-slice-aggregate-copy-4
-slice-aggregate-copy-4 c = search needs
-
-sub-copy-2 : tie.Need-sub-copy-2
-sub-copy-2 c = search needs
-
-part-meant-start-2 : tie.Need-part-meant-start-2
-part-meant-start-2 c = search needs
 
 part-meant-end-2 : tie.Need-part-meant-end-2
 part-meant-end-2 c =
@@ -180,12 +149,6 @@ array-share-prefix-value c = fits (start-of-3 (c .before))
 
 slice-aggregate-copy-5 : tie.Need-slice-aggregate-copy-5
 slice-aggregate-copy-5 c = sym (value-length (start-of-3 (c .before .before)))
-
-sub-copy-3 : tie.Need-sub-copy-3
-sub-copy-3 c = search needs
-
-part-meant-start-3 : tie.Need-part-meant-start-3
-part-meant-start-3 c = search needs
 
 part-meant-end-3 : tie.Need-part-meant-end-3
 part-meant-end-3 c =
@@ -213,25 +176,25 @@ pub write-payload-spec : {M : Type 1} → statement M
 write-payload-spec =
     tie.close
     (tie.spec
-    identifier-bytes-requires
-    slice-aggregate-copy
-    slice-aggregate-copy-2
-    copy-requires
-    array-write-meant
-    slice-aggregate-copy-3
-    sub-copy
-    part-meant-start
+    (λ c κs. search needs)
+    (λ c. search needs)
+    (λ c. search needs)
+    (λ c κs. search needs)
+    (λ c. search needs)
+    (λ c. search needs)
+    (λ c. search needs)
+    (λ c. search needs)
     part-meant-end
     copy-requires-2
-    slice-aggregate-copy-4
-    sub-copy-2
-    part-meant-start-2
+    (λ c. search needs)
+    (λ c. search needs)
+    (λ c. search needs)
     part-meant-end-2
     copy-requires-3
     array-share-prefix-value
     slice-aggregate-copy-5
-    sub-copy-3
-    part-meant-start-3
+    (λ c. search needs)
+    (λ c. search needs)
     part-meant-end-3
     copy-requires-4
     add-t9

@@ -7,12 +7,12 @@ use native.Mathlib.Omega.{arith}
 use borrow.Author.Needs.{needs}
 use lib.ListN.{length, take, drop, set, length-set}
 use lib.Seq.{length-take-le}
-use Rattle.frame.specs.Memory.{over}
-use Rattle.frame.specs.MemoryLaws.{over-length, run-from}
-use Rattle.frame.specs.Writing.{frameFor}
-use Rattle.frame.specs.declared.Written.the-variants.{Length}
-use Rattle.reader.specs.Building.{wakeUp}
+use Rattle.laws.specs.Memory.{over}
+use Rattle.laws.specs.MemoryLaws.{over-length, run-from}
+use Rattle.frame.specs.Frame.{frameFor}
 use Rattle.frame.specs.FrameLaws.{frame-for-length}
+use Rattle.frame_parts.specs.declared.Written.the-variants.{Length}
+use Rattle.reader.specs.Building.{wakeUp}
 use Rattle.reader.specs.BuildingLaws.{written-length, written-over}
 use Rattle.reader.proofs.build.write_request.Statement.{statement}
 use Rattle.reader.proofs.build.write_request.Tie as tie
@@ -73,9 +73,6 @@ kept c =
     ap length (stands c)
     ∙ over-length (wakeUp ++ frameFor (s .args .address) (s .args .control) (meant s)) (s .args .out .now) (omega (arith, framed, few s, s .pre .1))
 
-slice-write-out : tie.Need-slice-write-out
-slice-write-out c = search needs
-
 slice-write-out-2 : tie.Need-slice-write-out-2
 slice-write-out-2 c = simp length-set (omega arith)
 
@@ -96,15 +93,6 @@ sub-write-frame c = simp length-set (omega arith)
 
 part-write-frame-start : tie.Need-part-write-frame-start
 part-write-frame-start c = simp length-set (omega arith)
-
-part-write-frame-end : tie.Need-part-write-frame-end
-part-write-frame-end c = search needs
-
-write-frame-requires : tie.Need-write-frame-requires
-write-frame-requires c κs = search needs
-
-enum-known-n : tie.Need-enum-known-n
-enum-known-n c = search needs
 
 same-length : tie.Need-same-length
 same-length c = kept (c .before .before .before)
@@ -135,7 +123,7 @@ pub write-request-spec : {M : Type 1} → statement M
 write-request-spec =
     tie.close
     (tie.spec
-    slice-write-out
+    (λ c. search needs)
     slice-write-out-2
     slice-write-out-3
     slice-write-out-4
@@ -143,9 +131,9 @@ write-request-spec =
     slice-aggregate-write-frame
     sub-write-frame
     part-write-frame-start
-    part-write-frame-end
-    write-frame-requires
-    enum-known-n
+    (λ c. search needs)
+    (λ c κs. search needs)
+    (λ c. search needs)
     same-length
     returns
     add-result

@@ -4,7 +4,7 @@ use mathlib.Core.List.{List}
 use Prim.Native.Nat.{ℕ, _-_}
 use native.Mathlib.Omega.{arith}
 use borrow.Author.Needs.{needs}
-use Rattle.frame.specs.Memory.{outcome}
+use Rattle.laws.specs.Memory.{outcome}
 use Rattle.recording.specs.KeepLaws.{kept-disordered, kept-beyond, kept-moved}
 use Rattle.recording.proofs.rest.keep_rest.Statement.{statement}
 use Rattle.recording.proofs.rest.keep_rest.Tie as tie
@@ -15,12 +15,6 @@ returns c = kept-disordered _ _ _ (c .if1 .taken)
 returns-2 : tie.Need-returns-2
 returns-2 c = kept-beyond _ _ _ (omega arith) (c .if2 .taken)
 
-move-to-front-requires : tie.Need-move-to-front-requires
-move-to-front-requires c κs = search needs
-
-same-length : tie.Need-same-length
-same-length c = search needs
-
 returns-3 : tie.Need-returns-3
 returns-3 c =
     let m = c .before .before in
@@ -29,4 +23,4 @@ returns-3 c =
 
 pub keep-rest-spec : {M : Type 1} → statement M
 keep-rest-spec =
-    tie.close (tie.spec returns returns-2 move-to-front-requires same-length returns-3)
+    tie.close (tie.spec returns returns-2 (λ c κs. search needs) (λ c. search needs) returns-3)

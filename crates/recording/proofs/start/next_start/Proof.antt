@@ -6,23 +6,8 @@ use borrow.Author.Needs.{needs}
 use Rattle.recording.proofs.start.next_start.Statement.{statement}
 use Rattle.recording.proofs.start.next_start.Tie as tie
 
-near-end-requires : tie.Need-near-end-requires
-near-end-requires c κs = search needs
-
-find-requires : tie.Need-find-requires
-find-requires c κs = search needs
-
 returns : tie.Need-returns
 returns c = find-passes _ _ _ _ (omega arith) (c .before .find .ensures .0) (c .before .find .ensures .1)
-
-pass-clear-requires : tie.Need-pass-clear-requires
-pass-clear-requires c κs = search needs
-
-pass-clear-requires-2 : tie.Need-pass-clear-requires-2
-pass-clear-requires-2 c κs = search needs
-
-find-requires-2 : tie.Need-find-requires-2
-find-requires-2 c κs = search needs
 
 returns-2 : tie.Need-returns-2
 returns-2 c =
@@ -36,10 +21,10 @@ pub next-start-spec : {M : Type 1} → statement M
 next-start-spec =
     tie.close
     (tie.spec
-    near-end-requires
-    find-requires
+    (λ c κs. search needs)
+    (λ c κs. search needs)
     returns
-    pass-clear-requires
-    pass-clear-requires-2
-    find-requires-2
+    (λ c κs. search needs)
+    (λ c κs. search needs)
+    (λ c κs. search needs)
     returns-2)

@@ -1,0 +1,78 @@
+-- Laws of a frame taken apart.
+use Prim.Native.Nat.{ℕ, _+_, _≤_, _<_}
+use mathlib.Core.Path.{_≡_, _∙_}
+use mathlib.Core.List.{List, [], _∷_}
+use mathlib.Core.Bool.{true}
+use native.Mathlib.Omega.{arith}
+use lib.ListN.{length, take, drop, getD, replicate, length-drop, length-map}
+use lib.Seq.{drop-cons, length-take-le, take-at, getD-take, getD-drop}
+use borrow.Author.Tests.{le-leb}
+use Rattle.laws.specs.Memory.{over}
+use Rattle.laws.specs.MemoryLaws.{over-length}
+use Rattle.frame.specs.Frame.{addressOf, lengthOf, fieldOf, dataOf}
+use Rattle.frame_parts.specs.Parts.{addressField, hasData, dataField}
+use Rattle.frame.specs.Recognition.{exactlyOne}
+use Rattle.frame.specs.RecognitionLaws.{one-frame, frame-spans, frame-most}
+
+-- Bytes that are enough for an address field: that is what is taken, and it is bytes 1 to 6.
+module _ (bytes : List ℕ) (seven : 7 ≤ length bytes) where
+  pub address-there : addressField bytes ≡ addressOf bytes
+  unfolding addressField
+  address-there = rw (le-leb 7 (length bytes) seven)
+
+  pub address-bytes : addressField bytes
+      ≡ getD bytes 1 0 ∷ getD bytes 2 0 ∷ getD bytes 3 0 ∷ getD bytes 4 0 ∷ getD bytes 5 0 ∷ getD bytes 6 0 ∷ []
+  unfolding addressOf
+  address-bytes =
+      address-there ∙
+      rw (
+        drop-cons bytes 1 0 (omega arith),
+        drop-cons bytes 2 0 (omega arith),
+        drop-cons bytes 3 0 (omega arith),
+        drop-cons bytes 4 0 (omega arith),
+        drop-cons bytes 5 0 (omega arith),
+        drop-cons bytes 6 0 (omega arith),
+      )
+
+-- A byte of the data field, off the bytes.
+pub field-at : (bytes : List ℕ) (i : ℕ) → i < lengthOf bytes → getD (fieldOf bytes) i 0 ≡ getD bytes (10 + i) 0
+unfolding fieldOf
+field-at bytes i h = getD-take (lengthOf bytes) (drop 10 bytes) i 0 h ∙ getD-drop 10 bytes i 0
+
+-- Bytes that have as many data as they say: their field is as long as they say, and where that is at most 200 the data are taken.
+module _ (bytes : List ℕ) (there : 10 + lengthOf bytes ≤ length bytes) where
+  pub field-length : length (fieldOf bytes) ≡ lengthOf bytes
+  unfolding fieldOf
+  field-length = length-take-le (lengthOf bytes) (drop 10 bytes) (rw length-drop (omega arith))
+
+  pub data-there : lengthOf bytes ≤ 200 → dataField bytes ≡ over (dataOf bytes) (replicate 200 0)
+  unfolding dataField hasData
+  data-there most =
+      rw (le-leb 10 (length bytes) (omega arith), le-leb (lengthOf bytes) 200 most, le-leb (10 + lengthOf bytes) (length bytes) there)
+
+-- The parts of bytes that are exactly one frame.
+module _ (bytes : List ℕ) (one : exactlyOne bytes ≡ true) where
+  -- Twelve bytes and the data, which are as many as the data length says and at most 200.
+  pub one-spans : length bytes ≡ 12 + lengthOf bytes
+  one-spans = frame-spans (one-frame bytes one)
+
+  pub one-most : lengthOf bytes ≤ 200
+  one-most = omega (arith, one-spans, frame-most (one-frame bytes one))
+
+  pub data-length : length (dataOf bytes) ≡ lengthOf bytes
+  unfolding dataOf
+  data-length = rw length-map (field-length bytes (omega (arith, one-spans)))
+
+  -- The address field and the data are those of the frame.
+  pub address-field : addressField bytes ≡ addressOf bytes
+  address-field = address-there bytes (omega (arith, one-spans))
+
+  pub data-field : dataField bytes ≡ over (dataOf bytes) (replicate 200 0)
+  data-field = data-there bytes (omega (arith, one-spans)) one-most
+
+  -- The data fit an array of 200, and are read off the front of it.
+  pub data-fits : lengthOf bytes ≤ length (dataField bytes)
+  data-fits = rw (data-field, over-length (dataOf bytes) (replicate 200 0) (omega (arith, one-most, data-length))) one-most
+
+  pub data-front : take (lengthOf bytes) (dataField bytes) ≡ dataOf bytes
+  data-front = rw data-field (take-at (dataOf bytes) _ (lengthOf bytes) data-length)

@@ -1,0 +1,121 @@
+// A frame written from its parts and taken apart: document 01, "A frame". Data are masked when they are written, and unmasked when
+// they are taken off.
+ghost use mathlib.Core.Path.{_≡_};
+ghost use mathlib.Core.List.{map, _∷_, _++_, []};
+ghost use Prim.Native.Nat.{_+_, _≤_};
+ghost use lib.ListN.{length, take};
+ghost use Rattle.laws.specs.Memory.{outcome, over};
+ghost use Rattle.frame.specs.Frame.{checksumOf, masked, unmasked};
+ghost use Rattle.frame_parts.specs.Parts.{addressField, dataField};
+ghost use Rattle.frame_parts.specs.Writing.{writing};
+
+// The answer to the writing of a frame; only `Length` leaves bytes in the output buffer.
+pub enum Written {
+    // The frame's length.
+    Length(usize),
+    // More than 200 data bytes.
+    TooMuchData,
+    // An output buffer shorter than the frame.
+    TooLittleMemory,
+}
+
+// A data byte as it travels: with 33H added, wrapping at 256.
+fn mask(b: u8) -> u8
+    ensures { λ r. ⌜ r ≡ masked b ⌝ }
+{
+    std::num::wrapping_add_u8(b, 0x33)
+}
+
+// A data byte as it is meant: with 33H taken off, wrapping at 256.
+pub fn unmask(b: u8) -> u8
+    ensures { λ r. ⌜ r ≡ unmasked b ⌝ }
+{
+    std::num::wrapping_sub_u8(b, 0x33)
+}
+
+// The address field of a frame; zeros where the bytes are too few to have one.
+pub fn address_of(bytes: &[u8]) -> [u8; 6]
+    ensures { λ r. ⌜ r ≡ addressField (now (bytes .entry)) ⌝ }
+{
+    if bytes.len() < 7 {
+        return [0u8; 6];
+    }
+    [bytes[1], bytes[2], bytes[3], bytes[4], bytes[5], bytes[6]]
+}
+
+// The data of a frame, unmasked, at the front of an array that is zero behind them; zeros where the bytes have no data field.
+pub fn data_of(bytes: &[u8]) -> [u8; 200]
+    ensures { λ r. ⌜ r ≡ dataField (now (bytes .entry)) ⌝ }
+{
+    let mut meant = [0u8; 200];
+    if bytes.len() < 10 {
+        return meant;
+    }
+    let length = bytes[9] as usize;
+    if 200 < length {
+        return meant;
+    }
+    if bytes.len() < 10 + length {
+        return meant;
+    }
+    let mut i = 0;
+    while i < length {
+        meant[i] = unmask(bytes[10 + i]);
+        i += 1;
+    }
+    meant
+}
+
+// The bytes of a frame before its data field: 68, the address field, 68, the control code, the data length.
+fn write_head(address: [u8; 6], control: u8, data_length: u8, out: &mut [u8])
+    requires { ⌜ 10 ≤ length (now out) ⌝ }
+    ensures { λ _. ⌜ now (out .exit) ≡ over (0x68 ∷ (address ++ (0x68 ∷ control ∷ «data_length» ∷ []))) (now (out .entry)) ⌝ }
+{
+    out[0] = 0x68;
+    let mut i = 0;
+    while i < 6 {
+        out[1 + i] = address[i];
+        i += 1;
+    }
+    out[7] = 0x68;
+    out[8] = control;
+    out[9] = data_length;
+}
+
+// The data, masked, at the front of the output buffer.
+fn write_field(meant: &[u8], out: &mut [u8])
+    requires { ⌜ length (now meant) ≤ length (now out) ⌝ }
+    ensures { λ _. ⌜ now (out .exit) ≡ over (map masked (now (meant .entry))) (now (out .entry)) ⌝ }
+{
+    let mut i = 0;
+    while i < meant.len() {
+        out[i] = mask(meant[i]);
+        i += 1;
+    }
+}
+
+// The checksum of the first `n` bytes, and 16, after them.
+fn seal(n: usize, out: &mut [u8])
+    requires { ⌜ n + 2 ≤ length (now out) ⌝ }
+    ensures { λ _. ⌜ now (out .exit) ≡ over (take n (now (out .entry)) ++ (checksumOf (take n (now (out .entry))) ∷ 0x16 ∷ [])) (now (out .entry)) ⌝ }
+{
+    out[n] = frame::checksum(&out[..n]);
+    out[n + 1] = 0x16;
+}
+
+// Writes the frame of an address, a control code and data, masked here, to the front of the output buffer.
+pub fn write_frame(address: [u8; 6], control: u8, meant: &[u8], out: &mut [u8]) -> Written
+    ensures { λ r. ⌜ outcome r (now (out .exit)) ≡ writing address control (now (meant .entry)) (now (out .entry)) ⌝ }
+{
+    let n = meant.len();
+    if 200 < n {
+        return Written::TooMuchData;
+    }
+    if out.len() < 12 + n {
+        return Written::TooLittleMemory;
+    }
+    write_head(address, control, n as u8, out);
+    write_field(meant, &mut out[10..]);
+    seal(10 + n, out);
+    Written::Length(12 + n)
+}

@@ -1,0 +1,4 @@
+pub mod Address
+pub mod AddressLaws
+pub mod LowBytesLaws
+pub mod Examples

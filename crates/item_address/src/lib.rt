@@ -1,0 +1,66 @@
+// Communication addresses: six bytes, low byte first.
+use item_decimal::all_decimal;
+use item_same::same_bytes;
+ghost use mathlib.Core.Path.{_≡_};
+ghost use Rattle.item_address.specs.Address.{isGood, lowBytes, isShortCount, isShort, shortMatches};
+
+const BROADCAST: [u8; 6] = [0x99, 0x99, 0x99, 0x99, 0x99, 0x99];
+
+pub const WILDCARD: u8 = 0xAA;
+
+// Whether an address is good: decimal and not the broadcast address.
+pub fn is_good(address: [u8; 6]) -> bool
+    ensures { λ r. ⌜ r ≡ isGood address ⌝ }
+{
+    if !all_decimal(&address) {
+        return false;
+    }
+    let broadcast = BROADCAST;
+    !same_bytes(&address, &broadcast)
+}
+
+// How many low bytes of an address stand before the wildcard bytes at its end.
+fn low_bytes(address: [u8; 6]) -> usize
+    ensures { λ r. ⌜ r ≡ lowBytes address ⌝ }
+{
+    let mut count: usize = 6;
+    while 0 < count {
+        if address[count - 1] != WILDCARD {
+            return count;
+        }
+        count -= 1;
+    }
+    0
+}
+
+// Whether so many low bytes, one to five, make an address short.
+fn is_short_count(k: usize) -> bool
+    ensures { λ r. ⌜ r ≡ isShortCount k ⌝ }
+{
+    if 1 <= k {
+        return k <= 5;
+    }
+    false
+}
+
+// Whether an address is short: one to five decimal low bytes, and wildcard bytes above them.
+pub fn is_short(address: [u8; 6]) -> bool
+    ensures { λ r. ⌜ r ≡ isShort address ⌝ }
+{
+    let k = low_bytes(address);
+    if !is_short_count(k) {
+        return false;
+    }
+    all_decimal(&address[..k])
+}
+
+// Whether a short address is meant for the meter of this address. No byte is filled in for a wildcard byte.
+pub fn short_matches(address: [u8; 6], own: [u8; 6]) -> bool
+    ensures { λ r. ⌜ r ≡ shortMatches address own ⌝ }
+{
+    let k = low_bytes(address);
+    if !is_short_count(k) {
+        return false;
+    }
+    same_bytes(&address[..k], &own[..k])
+}

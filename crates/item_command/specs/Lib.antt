@@ -1,0 +1,4 @@
+pub mod Command
+pub mod CommandLaws
+pub mod Reply
+pub mod Examples

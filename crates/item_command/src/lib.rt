@@ -1,0 +1,80 @@
+// Commands of DL/T 645-2007, shared by the meter and the reader: document 01, "How the meter treats a frame". The control codes of
+// commands and of replies, the error bytes, and whom a frame with a command is for.
+pub mod reply;
+
+use item_address::WILDCARD;
+use item_address::short_matches;
+use item_same::same_bytes;
+ghost use mathlib.Core.Path.{_≡_};
+ghost use Rattle.item_command.specs.Command.{commandOf, controlFor, addressed};
+
+// The commands of document 01, with their controls.
+pub enum Command {
+    // 11
+    ReadData,
+    // 13
+    ReadAddress,
+    // 14
+    WriteData,
+    // 15
+    WriteAddress,
+    // 18
+    ChangePassword,
+}
+
+// What a control code asks for.
+pub enum Asked {
+    Known(Command),
+    Unknown,
+}
+
+// The command of a control code.
+pub fn command_of(control: u8) -> Asked
+    ensures { λ r. ⌜ r ≡ commandOf control ⌝ }
+{
+    match control {
+        0x11 => Asked::Known(Command::ReadData),
+        0x13 => Asked::Known(Command::ReadAddress),
+        0x14 => Asked::Known(Command::WriteData),
+        0x15 => Asked::Known(Command::WriteAddress),
+        0x18 => Asked::Known(Command::ChangePassword),
+        _ => Asked::Unknown,
+    }
+}
+
+// The control code of a command.
+pub fn control_of(command: Command) -> u8
+    ensures { λ r. ⌜ r ≡ controlFor command ⌝ }
+{
+    match command {
+        Command::ReadData => 0x11,
+        Command::ReadAddress => 0x13,
+        Command::WriteData => 0x14,
+        Command::WriteAddress => 0x15,
+        Command::ChangePassword => 0x18,
+    }
+}
+
+// Whether a frame's address is equal to the meter's, or a short address that matches it.
+fn matches_read(address: [u8; 6], own: [u8; 6]) -> bool
+    ensures { λ r. ⌜ r ≡ addressed Command.ReadData address own ⌝ }
+{
+    if same_bytes(&address, &own) {
+        return true;
+    }
+    short_matches(address, own)
+}
+
+// Whether a frame with this command and address is for the meter of this address.
+pub fn is_addressed(command: Command, address: [u8; 6], own: [u8; 6]) -> bool
+    ensures { λ r. ⌜ r ≡ addressed command address own ⌝ }
+{
+    let wildcards = [WILDCARD; 6];
+    match command {
+        Command::ReadData => matches_read(address, own),
+        Command::ReadAddress => same_bytes(&address, &wildcards),
+        Command::WriteData => same_bytes(&address, &own),
+        Command::WriteAddress => same_bytes(&address, &wildcards),
+        Command::ChangePassword => same_bytes(&address, &own),
+    }
+}

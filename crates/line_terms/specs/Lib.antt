@@ -1,0 +1,13 @@
+pub mod Line
+pub mod Reading
+pub mod Places
+pub mod PlaceLaws
+pub mod Scan
+pub mod BeginsLaws
+pub mod ScanLaws
+pub mod FramesFew
+pub mod FoundFrames
+pub mod TakenLaws
+pub mod ScanCertain
+pub mod Closed
+pub mod Examples

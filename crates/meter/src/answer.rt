@@ -1,0 +1,149 @@
+// The answer to a frame: whom it is for, then what is decided by control, carried out and replied.
+use crate::Answered;
+use crate::FrameAnswer;
+use crate::Meter;
+use crate::change::readdressed;
+use crate::change::with_password;
+use crate::change::written;
+use energy::Rows;
+use frame::refusal::NOT_FOR_THIS_METER;
+use frame::refusal::SHORT_MEMORY;
+use frame_parts::Written;
+use frame_parts::address_of;
+use frame_parts::data_of;
+use frame_parts::write_frame;
+use item_command::Asked;
+use item_command::Command;
+use item_command::command_of;
+use item_command::control_of;
+use item_command::is_addressed;
+use item_command::reply::reply_to;
+use meter_decision::Decision;
+use meter_decision::decide;
+use meter_holding::Held;
+use meter_holding::write_value;
+ghost use mathlib.Core.Path.{_≡_};
+ghost use mathlib.Core.Bool.{true};
+ghost use Prim.Native.Nat.{_≤_};
+ghost use lib.ListN.{length};
+ghost use Rattle.laws.specs.Memory.{outcome};
+ghost use Rattle.laws.specs.ChecksLaws.{AllHold};
+ghost use Rattle.frame.specs.Recognition.{exactlyOne};
+ghost use Rattle.item_identifier.specs.Identifier.{identifierOf};
+ghost use Rattle.meter_decision.specs.Decision.{checksOf};
+ghost use Rattle.meter.specs.Answer.{replies, replyData, carriedOut, treated, answeredWith, delivered};
+
+// A refusal: the meter as it was.
+pub(crate) fn refused(meter: Meter, refusal: u8) -> Answered
+    ensures { λ r. ⌜ r ≡ answeredWith meter (FrameAnswer.Refused refusal) ⌝ }
+{
+    Answered {
+        meter,
+        answer: FrameAnswer::Refused(refusal),
+    }
+}
+
+// A reply from the meter as it then is: its frame is written to the front of the output buffer.
+fn reply(after: Meter, control: u8, meant: &[u8], out: &mut [u8]) -> Answered
+    requires { ⌜ (length (now meant) ≤ 200) × (212 ≤ length (now out)) ⌝ }
+    ensures { λ r. ⌜ outcome r (now (out .exit)) ≡ delivered (replies control (now (meant .entry)) after) after (now (out .entry)) ⌝ }
+{
+    let address = after.address;
+    let Written::Length(n) = write_frame(address, control, meant, out) else {
+        return refused(after, SHORT_MEMORY);
+    };
+    Answered {
+        meter: after,
+        answer: FrameAnswer::Replied(n),
+    }
+}
+
+// The reply to 11: the identifier and the value.
+fn reply_value(
+    meter: Meter,
+    forward: Rows,
+    reverse: Rows,
+    control: u8,
+    identifier: u32,
+    meant: &[u8],
+    out: &mut [u8],
+) -> Answered
+    requires { ⌜ (identifier ≡ identifierOf (now meant)) × (212 ≤ length (now out)) ⌝ }
+    requires { ⌜ AllHold (checksOf Command.ReadData (now meant) (meter .key) (meter .passwords)) ⌝ }
+    ensures { λ r. ⌜ outcome r (now (out .exit)) ≡ delivered (replies control (replyData Command.ReadData (now (meant .entry)) meter forward reverse) meter) meter (now (out .entry)) ⌝ }
+{
+    let mut data = [0u8; 200];
+    bytes::copy(meant, &mut data);
+    let address = meter.address;
+    let registers = meter.registers;
+    let Held::Length(n) = write_value(
+        identifier,
+        address,
+        registers,
+        forward,
+        reverse,
+        &mut data[4..],
+    ) else {
+        return refused(meter, SHORT_MEMORY);
+    };
+    reply(meter, control, &data[..4 + n], out)
+}
+
+// A command carried out: what is decided is replied, with the meter as the command leaves it.
+fn carry_out(
+    meter: Meter,
+    forward: Rows,
+    reverse: Rows,
+    command: Command,
+    meant: &[u8],
+    out: &mut [u8],
+) -> Answered
+    requires { ⌜ 212 ≤ length (now out) ⌝ }
+    ensures { λ r. ⌜ outcome r (now (out .exit)) ≡ delivered (carriedOut command (now (meant .entry)) meter forward reverse) meter (now (out .entry)) ⌝ }
+{
+    let key = meter.key;
+    let passwords = meter.passwords;
+    let control = control_of(command);
+    let normal = reply_to(control, false);
+    let decision = decide(command, meant, key, passwords);
+    match decision {
+        Decision::Silent(refusal) => refused(meter, refusal),
+        Decision::Error(byte) => reply(meter, reply_to(control, true), &[byte], out),
+        Decision::Read(identifier) => {
+            reply_value(meter, forward, reverse, normal, identifier, meant, out)
+        }
+        Decision::OwnAddress => {
+            let address = meter.address;
+            reply(meter, normal, &address, out)
+        }
+        Decision::Write(identifier) => reply(written(meter, identifier, meant), normal, &[], out),
+        Decision::NewAddress => reply(readdressed(meter, meant), normal, &[], out),
+        Decision::NewPassword(level) => {
+            let after = with_password(meter, level, &meant[9..12]);
+            reply(after, normal, &meant[8..12], out)
+        }
+    }
+}
+
+// What a frame comes to: checks 3 and 4, then by control.
+pub(crate) fn treat(
+    meter: Meter,
+    forward: Rows,
+    reverse: Rows,
+    bytes: &[u8],
+    out: &mut [u8],
+) -> Answered
+    requires { ⌜ (exactlyOne (now bytes) ≡ true) × (212 ≤ length (now out)) ⌝ }
+    ensures { λ r. ⌜ outcome r (now (out .exit)) ≡ delivered (treated (now (bytes .entry)) meter forward reverse) meter (now (out .entry)) ⌝ }
+{
+    let Asked::Known(command) = command_of(bytes[8]) else {
+        return refused(meter, NOT_FOR_THIS_METER);
+    };
+    let own = meter.address;
+    if !is_addressed(command, address_of(bytes), own) {
+        return refused(meter, NOT_FOR_THIS_METER);
+    }
+    let meant = data_of(bytes);
+    let length = bytes[9] as usize;
+    carry_out(meter, forward, reverse, command, &meant[..length], out)
+}

@@ -1,0 +1,141 @@
+-- Laws of the decision: how the checks fail, and what those of 14 say.
+use Prim.Native.Nat.{ℕ, _≤_}
+use mathlib.Core.Path.{_≡_, refl}
+use mathlib.Core.List.{List}
+use mathlib.Core.Bool.{Bool, true, false, false≢true, and-eq-true-iff}
+use lib.ListN.{length}
+use lib.Dec.{leb}
+use borrow.Author.Tests.{leb-true, le-leb, eqb-true, eq-eqb}
+use Rattle.laws.specs.ChecksLaws.{AllHold, EachFailure, pass-or-any}
+use Rattle.frame.specs.Refusals.{silentByRule}
+use Rattle.item_decimal.specs.Decimal.{Decimal}
+use Rattle.item_same.specs.Same.{same}
+use Rattle.item_same.specs.SameLaws.{same-equal, equal-same}
+use Rattle.item_identifier.specs.Identifier.{identifierOf}
+use Rattle.item_command.specs.declared.Command.{Command}
+use Rattle.item_command.specs.declared.Command.the-variants.{ReadData, ReadAddress, WriteData, WriteAddress, ChangePassword}
+use Rattle.item.specs.Content.{isAllowed, within}
+use Rattle.item.specs.ContentLaws.{Range, content-allowed}
+use Rattle.item.specs.Table.{itemOf, hasLength}
+use Rattle.item.specs.declared.content.Content.{Content}
+use Rattle.item.specs.declared.content.Content.the-variants.{Allowed, NotDecimal, OutOfRange}
+use Rattle.item.specs.declared.table.Item.{Item}
+use Rattle.item.specs.declared.table.Lookup.{Lookup}
+use Rattle.item.specs.declared.table.Lookup.the-variants.{Listed, NotListed}
+use Rattle.meter_decision.specs.Request.{itemAsked, levelOf, passwordOf, writtenValue, newLevelOf}
+use Rattle.meter_decision.specs.Decision.{Failure, errorByte, silence, passwordAt, isListed, isWritable, hasContent, authorised, checksOf, failing, accepted, decided}
+use Rattle.meter_decision.specs.declared.Decision.{Decision}
+use Rattle.meter_decision.specs.declared.Decision.the-variants.{Silent, Error, Read, OwnAddress, Write, NewAddress, NewPassword}
+
+-- A failing 13 or 15 is silent by rule, any other command is answered with an error byte.
+abbrev pub failsSilently : Command → Bool
+failsSilently ReadData = false
+failsSilently ReadAddress = true
+failsSilently WriteData = false
+failsSilently WriteAddress = true
+failsSilently ChangePassword = false
+
+abbrev pub FailsAs : Command → Failure → Type 0
+FailsAs command (errorByte e) = failsSilently command ≡ false
+FailsAs command (silence n) = (failsSilently command ≡ true) × (n ≡ silentByRule)
+
+pub checks-fail : (command : Command) (meant : List ℕ) (key : Bool) (passwords : List ℕ)
+    → EachFailure (FailsAs command) (checksOf command meant key passwords)
+unfolding checksOf
+checks-fail ReadData meant key passwords = search
+checks-fail ReadAddress meant key passwords = search
+checks-fail WriteData meant key passwords = search depth 9
+checks-fail WriteAddress meant key passwords = search
+checks-fail ChangePassword meant key passwords = search depth 9
+
+-- What a decision to carry out says: its command, what it names, and that every check holds.
+abbrev pub Carries : Command → List ℕ → Bool → List ℕ → Decision → Type 0
+Carries command meant key passwords (Silent n) = Unit
+Carries command meant key passwords (Error e) = Unit
+Carries command meant key passwords (Read identifier) =
+    (command ≡ ReadData) × (identifier ≡ identifierOf meant) × AllHold (checksOf ReadData meant key passwords)
+Carries command meant key passwords OwnAddress = (command ≡ ReadAddress) × AllHold (checksOf ReadAddress meant key passwords)
+Carries command meant key passwords (Write identifier) =
+    (command ≡ WriteData) × (identifier ≡ identifierOf meant) × AllHold (checksOf WriteData meant key passwords)
+Carries command meant key passwords NewAddress = (command ≡ WriteAddress) × AllHold (checksOf WriteAddress meant key passwords)
+Carries command meant key passwords (NewPassword level) =
+    (command ≡ ChangePassword) × (level ≡ newLevelOf meant) × AllHold (checksOf ChangePassword meant key passwords)
+
+pub carries : (command : Command) (meant : List ℕ) (key : Bool) (passwords : List ℕ)
+    → Carries command meant key passwords (decided command meant key passwords)
+unfolding decided
+carries command meant key passwords =
+    pass-or-any failing (accepted command meant) (Carries command meant key passwords) (checksOf command meant key passwords) (pass command) fail
+  where
+    pass : (command : Command) → AllHold (checksOf command meant key passwords) → Carries command meant key passwords (accepted command meant)
+    pass ReadData h = (refl, refl, h)
+    pass ReadAddress h = (refl, h)
+    pass WriteData h = (refl, refl, h)
+    pass WriteAddress h = (refl, h)
+    pass ChangePassword h = (refl, refl, h)
+
+    fail : (f : Failure) → Carries command meant key passwords (failing f)
+    fail (errorByte e) = tt
+    fail (silence n) = tt
+
+-- What the checks of 14 say.
+pub record WriteHolds (meant : List ℕ) (key : Bool) (passwords : List ℕ) : Type 0 where
+  pub least : 12 ≤ length meant
+  pub most : length meant ≤ 50
+  pub item : Item
+  pub listed : itemOf (identifierOf meant) ≡ Listed item
+  pub writable : item .writable ≡ true
+  pub key-on : key ≡ true
+  pub level : levelOf meant ≤ 4
+  pub password : passwordOf meant ≡ passwordAt (levelOf meant) passwords
+  pub data-length : length (writtenValue meant) ≡ item .length
+  pub decimal : Decimal (writtenValue meant)
+  pub range : Range (item .kind) (writtenValue meant)
+
+-- The test of a content holds only of what is allowed.
+allowed : (c : Content) → isAllowed c ≡ true → c ≡ Allowed
+allowed Allowed h = refl
+allowed (NotDecimal i) h = absurd (false≢true h)
+allowed OutOfRange h = absurd (false≢true h)
+
+module _ (meant : List ℕ) (key : Bool) (passwords : List ℕ) where
+  pub write-holds : AllHold (checksOf WriteData meant key passwords) → WriteHolds meant key passwords
+  unfolding checksOf itemAsked within authorised
+  write-holds h = go (itemAsked meant) refl (h .1 .1 .0) (h .1 .1 .1 .1 .1 .0) (h .1 .1 .1 .1 .1 .1 .0)
+    where
+      lengths : (leb 12 (length meant) ≡ true) × (leb (length meant) 50 ≡ true)
+      lengths = and-eq-true-iff _ _ .0 (h .0)
+
+      right : (leb (levelOf meant) 4 ≡ true) × (same (passwordOf meant) (passwordAt (levelOf meant) passwords) ≡ true)
+      right = and-eq-true-iff _ _ .0 (h .1 .1 .1 .1 .0)
+
+      go : (l : Lookup) → itemAsked meant ≡ l → isWritable l ≡ true → hasLength l (length (writtenValue meant)) ≡ true
+          → hasContent l (writtenValue meant) ≡ true → WriteHolds meant key passwords
+      go NotListed e w n c = absurd (false≢true w)
+      go (Listed item) e w n c =
+          let content = content-allowed (item .kind) (writtenValue meant) .0 (allowed _ c) in
+          record {
+            least = leb-true _ _ (lengths .0);
+            most = leb-true _ _ (lengths .1);
+            item = item;
+            listed = e;
+            writable = w;
+            key-on = h .1 .1 .1 .0;
+            level = leb-true _ _ (right .0);
+            password = same-equal _ _ (right .1);
+            data-length = eqb-true _ _ n;
+            decimal = content .0;
+            range = content .1;
+          }
+
+  pub holds-write : WriteHolds meant key passwords → AllHold (checksOf WriteData meant key passwords)
+  unfolding checksOf itemAsked within authorised
+  holds-write w =
+      let size : within 12 50 (length meant) ≡ true = rw (le-leb _ _ (w .least)) (le-leb _ _ (w .most)) in
+      let found : isListed (itemAsked meant) ≡ true = rw (w .listed) in
+      let writable : isWritable (itemAsked meant) ≡ true = rw (w .listed) (w .writable) in
+      let right : authorised (levelOf meant) (passwordOf meant) passwords ≡ true = rw (le-leb _ _ (w .level)) (equal-same _ _ (w .password)) in
+      let long : hasLength (itemAsked meant) (length (writtenValue meant)) ≡ true = rw (w .listed) (eq-eqb _ _ (w .data-length)) in
+      let content : hasContent (itemAsked meant) (writtenValue meant) ≡ true =
+      rw (w .listed, content-allowed (w .item .kind) (writtenValue meant) .1 (w .decimal, w .range)) in
+      (size, (found, (writable, (w .key-on, (right, (long, (content, tt)))))))

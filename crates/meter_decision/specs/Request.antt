@@ -1,0 +1,31 @@
+-- The parts of a command's data, and the item that they ask for.
+use Prim.Native.Nat.{ℕ}
+use mathlib.Core.List.{List}
+use lib.ListN.{getD, drop}
+use Rattle.laws.specs.Part.{part}
+use Rattle.item_identifier.specs.Identifier.{identifierOf}
+use Rattle.item.specs.Table.{itemOf}
+use Rattle.item.specs.declared.table.Lookup.{Lookup}
+
+-- What the table has for the identifier.
+unfoldable pub itemAsked : List ℕ → Lookup
+itemAsked meant = itemOf (identifierOf meant)
+
+-- Data of 14: identifier, level, password, operator code, value. Of 18: identifier, old level and password, new level and password.
+unfoldable pub levelOf : List ℕ → ℕ
+levelOf meant = getD meant 4 0
+
+unfoldable pub passwordOf : List ℕ → List ℕ
+passwordOf meant = part 5 3 meant
+
+unfoldable pub operatorOf : List ℕ → List ℕ
+operatorOf meant = part 8 4 meant
+
+unfoldable pub writtenValue : List ℕ → List ℕ
+writtenValue meant = drop 12 meant
+
+unfoldable pub newLevelOf : List ℕ → ℕ
+newLevelOf meant = getD meant 8 0
+
+unfoldable pub newPasswordOf : List ℕ → List ℕ
+newPasswordOf meant = part 9 3 meant

@@ -1,0 +1,83 @@
+-- Document 01, "What the meter holds": the value of each item, by a meter's address, registers and readings, and the ranges of these.
+use Prim.Native.Nat.{ℕ}
+use mathlib.Core.List.{List, [], _∷_}
+use mathlib.Core.Bool.{Bool, _&&_}
+use lib.ListN.{length}
+use lib.Dec.{leb, eqb}
+use Rattle.laws.specs.Memory.{Outcome, outcome, over, pick}
+use Rattle.laws.specs.Part.{part, withPart}
+use Rattle.item_address.specs.Address.{isGood}
+use Rattle.item_decimal.specs.Decimal.{allDecimal}
+use Rattle.item.specs.Table.{itemOf, hasLength}
+use Rattle.item.specs.declared.table.Kind.{Kind}
+use Rattle.item.specs.declared.table.Kind.the-variants.{Energy, Date, Time, DemandPeriod, Slip, Address, MeterNumber, FirstSettlementDay, SecondSettlementDay, ThirdSettlementDay}
+use Rattle.item.specs.declared.table.Item.{Item}
+use Rattle.item.specs.declared.table.Lookup.{Lookup}
+use Rattle.item.specs.declared.table.Lookup.the-variants.{Listed, NotListed}
+use Rattle.energy.specs.Energies.{Rows, rowsInRange}
+use Rattle.meter_holding.specs.Columns.{columnsBytes}
+use Rattle.meter_holding.specs.declared.Held.{Held}
+use Rattle.meter_holding.specs.declared.Held.the-variants as held
+use Rattle.meter_holding.specs.declared.place.Place.{Place}
+use Rattle.meter_holding.specs.declared.place.Place.the-variants.{Readings, OwnAddress, Register}
+
+-- Where a meter keeps an item: among the readings, as its address, or as a register that begins at a place.
+unfoldable pub placeOf : Kind → Place
+placeOf (Energy direction rate rates row rows) = Readings direction rate rates row rows
+placeOf Date = Register 0
+placeOf Time = Register 4
+placeOf DemandPeriod = Register 7
+placeOf Slip = Register 8
+placeOf Address = OwnAddress
+placeOf MeterNumber = Register 9
+placeOf FirstSettlementDay = Register 15
+placeOf SecondSettlementDay = Register 17
+placeOf ThirdSettlementDay = Register 19
+
+-- The bytes at a place.
+unfoldable pub heldAt : Place → ℕ → List ℕ → List ℕ → Rows → Rows → List ℕ
+heldAt (Readings direction rate rates row rows) n address registers forward reverse =
+    columnsBytes (pick (eqb direction 0) forward reverse) rate rates row rows
+heldAt OwnAddress n address registers forward reverse = address
+heldAt (Register at) n address registers forward reverse = part at n registers
+
+-- The value held for an item.
+unfoldable pub valueHeld : Item → List ℕ → List ℕ → Rows → Rows → List ℕ
+valueHeld item address registers forward reverse = heldAt (placeOf (item .kind)) (item .length) address registers forward reverse
+
+-- The registers with other bytes at a place; only a register is written.
+unfoldable pub registersWith : Place → List ℕ → List ℕ → List ℕ
+registersWith (Readings direction rate rates row rows) value registers = registers
+registersWith OwnAddress value registers = registers
+registersWith (Register at) value registers = withPart at value registers
+
+-- Within document 01's ranges: the address good, every register decimal, every reading at most 99,999,999.
+unfoldable pub withinRanges : List ℕ → List ℕ → Rows → Rows → Bool
+withinRanges address registers forward reverse =
+    isGood address && (allDecimal registers && (rowsInRange forward && rowsInRange reverse))
+
+-- Date 00-01-01 with WW 06, time zero, period 15, slip 1, meter number zero, first settlement day 0100, others 9999.
+abbrev pub freshRegisters : List ℕ
+freshRegisters =
+    0x06 ∷ 0x01 ∷ 0x01 ∷ 0x00 ∷ 0x00 ∷ 0x00 ∷ 0x00 ∷ 0x15 ∷ 0x01 ∷ 0x00 ∷ 0x00 ∷ 0x00 ∷ 0x00 ∷ 0x00 ∷ 0x00 ∷ 0x00 ∷ 0x01 ∷ 0x99 ∷ 0x99 ∷ 0x99
+    ∷ 0x99 ∷ []
+
+-- What the writing of a value answers and leaves: an identifier that is not listed, or too little memory, leaves it as it was.
+abbrev pub writtenOf : Lookup → List ℕ → List ℕ → Rows → Rows → List ℕ → Outcome Held
+writtenOf NotListed address registers forward reverse m = outcome held.NotListed m
+writtenOf (Listed item) address registers forward reverse m =
+    pick (leb (item .length) (length m))
+    (outcome (held.Length (item .length)) (over (valueHeld item address registers forward reverse) m))
+    (outcome held.TooLittleMemory m)
+
+unfoldable pub valueWritten : ℕ → List ℕ → List ℕ → Rows → Rows → List ℕ → Outcome Held
+valueWritten identifier address registers forward reverse m = writtenOf (itemOf identifier) address registers forward reverse m
+
+-- The registers after a write of an identifier: as they were where it is not listed, or the value not as long as its item.
+abbrev pub registersOf : Lookup → List ℕ → List ℕ → List ℕ
+registersOf NotListed value registers = registers
+registersOf (Listed item) value registers = registersWith (placeOf (item .kind)) value registers
+
+unfoldable pub registersAfter : ℕ → List ℕ → List ℕ → List ℕ
+registersAfter identifier value registers =
+    pick (hasLength (itemOf identifier) (length value)) (registersOf (itemOf identifier) value registers) registers
