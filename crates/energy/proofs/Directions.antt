@@ -83,8 +83,8 @@ reader k = record {
   body = seq (assign (place 0 []) (rvOpd (copy (place 1 (field k ∷ []))))) return;
 }
 
--- k is the field, d where it lies in the struct, and `is` says that what the struct's machine value has there is the rows'
-module _ (k : ℕ) {d : ℕ} (lies : fieldOf T′.mir k ≡ some (lone (R .mir), d)) (get : Energies → Rows) (is : (e : Energies) → Is T.the-row e (vstruct (within e) ∷ []) → Is R (F .into (get e)) (getV (within e) k ∷ [])) {M : Type 1} (𝓤 : URA M) (H : Heap 𝓤) (A : Atoms 𝓤) (W : Given 𝓤 H A) (𝓣 : Tables 𝓤 H) where
+-- k is the field, d where it stands in the struct, and `is` says that what the struct's machine value has there is the rows'
+module _ (k : ℕ) {d : ℕ} (stands : fieldOf T′.mir k ≡ some (lone (R .mir), d)) (get : Energies → Rows) (is : (e : Energies) → Is T.the-row e (vstruct (within e) ∷ []) → Is R (F .into (get e)) (getV (within e) k ∷ [])) {M : Type 1} (𝓤 : URA M) (H : Heap 𝓤) (A : Atoms 𝓤) (W : Given 𝓤 H A) (𝓣 : Tables 𝓤 H) where
   abbrev clauses : Clauses 𝓤 forward.ended
   clauses κs a = record { ghost = Unit {0}; requires = λ g. emp 𝓤; ensures = λ g r e. fact 𝓤 (r ≡ get (a .0)) }
 
@@ -105,7 +105,7 @@ module _ (k : ℕ) {d : ℕ} (lies : fieldOf T′.mir k ≡ some (lone (R .mir),
     walk =
         qed W (‵ ftrue ∷ ‵ (owns (T.the-row ∷ []) (e, tt) (vstruct (within e) ∷ [], tt)) ∷ []) ∵ enter ! (𝓣 .C) (𝓣 .Λ) (reader k) (vstruct (within e) ∷ []) _ $
         alloc1 ! (λ l₀. alloc1 ! (λ l₁. alloc0 ! $ params1 ! $ pass1 ! (init ! 0 refl (LL.lawful T.the-type T′.the-laws 𝓤 H A W .typed e _ are .0)) $ pass0 ! $
-        assigns ! (of-opd ! (load ! (from ! (fld ! lies (stop !))) (look-in ! 0 (sub ! k lies (whole !))))) (from ! (stop !)) (init ! 2 refl (T′.the-laws .0 .lawful 𝓤 H A W .typed (F .into (get e)) _ (is e are) .0)) $
+        assigns ! (of-opd ! (load ! (from ! (fld ! stands (stop !))) (look-in ! 0 (sub ! k stands (whole !))))) (from ! (stop !)) (init ! 2 refl (T′.the-laws .0 .lawful 𝓤 H A W .typed (F .into (get e)) _ (is e are) .0)) $
         returns ! (look ! 2 refl) $ forget ! 0 refl $ forget ! 2 refl $ move ! (2 ∷ 3 ∷ []) $ free1 ! $ free1 ! $ free0 ! $ keep ! [] $ by ! exits))
 
   pub reads-field : Meets 𝓤 H A forward.signature (WpFn 𝓤 H (𝓣 .C) (𝓣 .Λ) (reader k)) (closing 𝓤 H A forward.ended clauses)

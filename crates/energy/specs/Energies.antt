@@ -2,23 +2,22 @@
 -- total and rates 1 to 4.
 use Prim.Native.Nat.{ℕ}
 use mathlib.Core.List.{List, [], _∷_}
-use mathlib.Core.Bool.{Bool, true, _&&_}
+use mathlib.Core.Bool.{Bool}
 use lib.ListN.{getD, set, take, replicate}
-use Rattle.laws.specs.Memory.{pick}
-use Rattle.item.specs.Content.{within}
-use Rattle.energy.specs.Reading.{Reading, zeroReading, readingInRange, plusAmount}
+use Rattle.laws.specs.All.{allOf}
+use Rattle.laws.specs.Test.{pick}
+use Rattle.item_range.specs.Range.{within}
+use Rattle.energy.specs.Reading.{Reading, zeroReading, readingInRange, plusAmount, noReading}
 
 abbrev pub Rows : Type 0
 Rows = List (List Reading)
 
 -- Every reading is within its range.
 unfoldable pub rowInRange : List Reading → Bool
-rowInRange [] = true
-rowInRange (reading ∷ row) = readingInRange reading && rowInRange row
+rowInRange row = allOf readingInRange row
 
 unfoldable pub rowsInRange : Rows → Bool
-rowsInRange [] = true
-rowsInRange (row ∷ rows) = rowInRange row && rowsInRange rows
+rowsInRange rows = allOf rowInRange rows
 
 -- Readings zero.
 abbrev pub zeroRows : Rows
@@ -26,12 +25,12 @@ zeroRows = replicate 13 (replicate 5 zeroReading)
 
 -- The reading of a row and a column.
 unfoldable pub readingAt : Rows → ℕ → ℕ → Reading
-readingAt rows row rate = getD (getD rows row []) rate zeroReading
+readingAt rows row rate = getD (getD rows row []) rate noReading
 
 -- A pulse amount is added to row 0's rate and total.
 abbrev pub pulsedRow : List Reading → ℕ → ℕ → List Reading
 pulsedRow row amount rate =
-    set (set row 0 (plusAmount (getD row 0 zeroReading) amount)) rate (plusAmount (getD row rate zeroReading) amount)
+    set (set row 0 (plusAmount (getD row 0 noReading) amount)) rate (plusAmount (getD row rate noReading) amount)
 
 abbrev pub pulsedRows : Rows → ℕ → ℕ → Rows
 pulsedRows [] amount rate = []

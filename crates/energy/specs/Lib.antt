@@ -1,5 +1,8 @@
 pub mod Reading
+pub mod ReadingLaws
 pub mod Energies
-pub mod TestLaws
-pub mod MoveLaws
 pub mod EnergiesLaws
+pub mod RangeLaws
+pub mod Columns
+pub mod ColumnsLaws
+pub mod Decoded

@@ -1,4 +1,4 @@
--- A reading: hundredths of a kWh, 0 to 99,999,999. Only this file knows that it is a number.
+-- A reading: hundredths of a kWh, 0 to 99,999,999. Only this file and ReadingLaws know how it is kept.
 use Prim.Native.Nat.{ℕ, _+_, _%_}
 use mathlib.Core.List.{List}
 use mathlib.Core.Bool.{Bool}
@@ -10,6 +10,17 @@ Reading = ℕ
 
 abbrev pub zeroReading : Reading
 zeroReading = 0
+
+-- What stands for a reading at a row or a column that there is not.
+abbrev pub noReading : Reading
+noReading = 0
+
+-- The number of a reading, and the reading of a number.
+unfoldable pub numberOf : Reading → ℕ
+numberOf reading = reading
+
+unfoldable pub readingOf : ℕ → Reading
+readingOf number = number
 
 -- 0 to 99,999,999.
 unfoldable pub readingInRange : Reading → Bool

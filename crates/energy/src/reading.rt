@@ -1,11 +1,18 @@
-// A reading: hundredths of a kWh, 0 to 99,999,999. Only this file and specs/Reading.antt know that it is a number.
+// A reading: hundredths of a kWh, 0 to 99,999,999. Only this file, specs/Reading.antt and its laws know how it is kept.
 use item_decimal::pack;
 ghost use mathlib.Core.Path.{_≡_};
-ghost use Rattle.energy.specs.Reading.{readingInRange, readingBytes, plusAmount};
+ghost use Rattle.energy.specs.Reading.{readingOf, readingInRange, readingBytes, plusAmount};
 
 pub type Reading = u32;
 
 pub(crate) const ZERO: Reading = 0;
+
+// The reading of a number.
+pub fn of(number: u32) -> Reading
+    ensures { λ r. ⌜ r ≡ readingOf number ⌝ }
+{
+    number
+}
 
 // Whether a reading is within its range.
 pub(crate) fn is_in_range(reading: Reading) -> bool

@@ -2,6 +2,7 @@
 use crate::Rows;
 use crate::reading;
 use crate::reading::Reading;
+use item_range::is_within;
 ghost use mathlib.Core.Path.{_≡_};
 ghost use Rattle.energy.specs.Energies as energies;
 
@@ -45,10 +46,7 @@ pub fn in_range(rows: Rows) -> bool
 pub fn is_rate(rate: u8) -> bool
     ensures { λ r. ⌜ r ≡ energies.isRate rate ⌝ }
 {
-    if 1 <= rate {
-        return rate <= 4;
-    }
-    false
+    is_within(1, 4, rate as usize)
 }
 
 // A pulse amount added to row 0's rate and total; what is no rate changes nothing.

@@ -8,9 +8,10 @@ use native.Mathlib.Omega.{arith}
 use lib.ListN.{length}
 use lib.Dec.{leb, eqb}
 use borrow.Author.Tests.{eqb-true}
-use Rattle.laws.specs.Memory.{Outcome, pick}
+use Rattle.laws.specs.Memory.{Outcome, LeftAlone}
+use Rattle.laws.specs.Test.{pick}
 use Rattle.frame.specs.Refusals.{badArgument}
-use Rattle.laws.specs.MemoryLaws.{pick-cases}
+use Rattle.laws.specs.TestLaws.{pick-cases}
 use Rattle.item_address.specs.Address.{isGood}
 use Rattle.frame_parts.specs.Writing.{writing}
 use Rattle.frame_parts.specs.declared.Written.{Written}
@@ -26,9 +27,9 @@ use Rattle.item.specs.declared.table.Lookup.{Lookup}
 use Rattle.item.specs.declared.table.Lookup.the-variants.{Listed, NotListed}
 use Rattle.meter_holding.specs.Holding as holding
 use Rattle.item.specs.declared.table.Item.{Item}
-use Rattle.meter_holding.specs.Holding.{placeOf, registersWith, writtenOf, valueWritten, registersOf, registersAfter}
-use Rattle.meter_holding.specs.declared.place.Place.{Place}
-use Rattle.meter_holding.specs.declared.place.Place.the-variants.{Readings, OwnAddress, Register}
+use Rattle.meter_holding.specs.Holding.{locationOf, registersWith, writtenOf, valueWritten, registersOf, registersAfter}
+use Rattle.meter_holding.specs.declared.location.Location.{Location}
+use Rattle.meter_holding.specs.declared.location.Location.the-variants.{Readings, OwnAddress, Register}
 use Rattle.meter_holding.specs.declared.Held.{Held}
 use Rattle.meter_holding.specs.declared.Held.the-variants as held
 use Rattle.meter.specs.Meter.{freshMeter, withinRanges}
@@ -57,48 +58,48 @@ use Rattle.exchange.specs.declared.ExchangeAnswer.the-variants as exchan
 pub record RefusalsChangeNothing : Type 0 where
   -- The receiver, with a byte or a silence.
   pub receiver : (s : Symbol) (r : Receiver) (m : List ℕ) (n : ℕ) → called s r m .answer .answer ≡ receiving.Refused n
-      → (called s r m .answer .receiver ≡ r) × (called s r m .memory ≡ m)
+      → LeftAlone r (called s r m .answer .receiver) × LeftAlone m (called s r m .memory)
   -- A meter that is refused when it is made is refused by every operation.
   pub fresh-meter : (address : List ℕ) (n : ℕ) → created address .answer ≡ host.Refused n
       → withinRanges (created address .meter) (created address .energies .forward) (created address .energies .reverse) ≡ false
   -- The calls of the host.
   pub set-key : (on : Bool) (m : Meter) (forward reverse : Rows) (n : ℕ) → keySet on m forward reverse .answer ≡ host.Refused n
-      → keySet on m forward reverse .meter ≡ m
+      → LeftAlone m (keySet on m forward reverse .meter)
   pub pulse : (amount direction rate : ℕ) (m : Meter) (forward reverse : Rows) (n : ℕ)
       → pulsedBy amount direction rate m forward reverse .answer ≡ host.Refused n
-      → pulsedBy amount direction rate m forward reverse .energies ≡ energiesOf forward reverse
+      → LeftAlone (energiesOf forward reverse) (pulsedBy amount direction rate m forward reverse .energies)
   pub settle : (m : Meter) (forward reverse : Rows) (n : ℕ) → settledBy m forward reverse .answer ≡ host.Refused n
-      → settledBy m forward reverse .energies ≡ energiesOf forward reverse
+      → LeftAlone (energiesOf forward reverse) (settledBy m forward reverse .energies)
   -- A pulse and a settlement counted, whatever the caller says of the ranges.
   pub count-pulse : (amount direction rate : ℕ) (within : Bool) (forward reverse : Rows) (n : ℕ)
       → counting.pulsedBy amount direction rate within forward reverse .answer ≡ host.Refused n
-      → counting.pulsedBy amount direction rate within forward reverse .energies ≡ energiesOf forward reverse
+      → LeftAlone (energiesOf forward reverse) (counting.pulsedBy amount direction rate within forward reverse .energies)
   pub count-settle : (within : Bool) (forward reverse : Rows) (n : ℕ) → counting.settledBy within forward reverse .answer ≡ host.Refused n
-      → counting.settledBy within forward reverse .energies ≡ energiesOf forward reverse
+      → LeftAlone (energiesOf forward reverse) (counting.settledBy within forward reverse .energies)
   -- A frame put to a meter, and a frame that is not written.
   pub frame : (bytes : List ℕ) (m : Meter) (forward reverse : Rows) (memory : List ℕ) (n : ℕ)
       → answered bytes m forward reverse memory .answer .answer ≡ frames.Refused n
-      → (answered bytes m forward reverse memory .answer .meter ≡ m) × (answered bytes m forward reverse memory .memory ≡ memory)
-  pub write-frame : (address : List ℕ) (control : ℕ) (meant m : List ℕ) → ((n : ℕ) → writing address control meant m .answer ≡ Length n → ⊥)
-      → writing address control meant m .memory ≡ m
+      → LeftAlone m (answered bytes m forward reverse memory .answer .meter) × LeftAlone memory (answered bytes m forward reverse memory .memory)
+  pub write-frame : (address : List ℕ) (control : ℕ) (payload m : List ℕ) → ((n : ℕ) → writing address control payload m .answer ≡ Length n → ⊥)
+      → LeftAlone m (writing address control payload m .memory)
   -- A value that is not written, and registers that take none.
   pub write-value : (identifier : ℕ) (address registers : List ℕ) (forward reverse : Rows) (m : List ℕ)
       → ((n : ℕ) → valueWritten identifier address registers forward reverse m .answer ≡ held.Length n → ⊥)
-      → valueWritten identifier address registers forward reverse m .memory ≡ m
+      → LeftAlone m (valueWritten identifier address registers forward reverse m .memory)
   pub with-value : (identifier : ℕ) (value registers : List ℕ)
-      → ((item : Item) (at : ℕ) → itemOf identifier ≡ Listed item → placeOf (item .kind) ≡ Register at → length value ≡ item .length → ⊥)
-      → registersAfter identifier value registers ≡ registers
+      → ((item : Item) (at : ℕ) → itemOf identifier ≡ Listed item → locationOf (item .kind) ≡ Register at → length value ≡ item .length → ⊥)
+      → LeftAlone registers (registersAfter identifier value registers)
   -- The reader's end.
-  pub build : (request : Request) (m : List ℕ) (n : ℕ) → built request m .answer ≡ building.Refused n → built request m .memory ≡ m
-  pub judge : (request : Request) (bytes m : List ℕ) (n : ℕ) → judged request bytes m .answer ≡ judging.Refused n → judged request bytes m .memory ≡ m
+  pub build : (request : Request) (m : List ℕ) (n : ℕ) → built request m .answer ≡ building.Refused n → LeftAlone m (built request m .memory)
+  pub judge : (request : Request) (bytes m : List ℕ) (n : ℕ) → judged request bytes m .answer ≡ judging.Refused n → LeftAlone m (judged request bytes m .memory)
   -- An exchange.
   pub exchange : (request : Request) (m : Meter) (forward reverse : Rows) (lent : Memories) (n : ℕ)
       → exchanged request m forward reverse lent .returned .answer ≡ exchanging.Refused n
-      → (exchanged request m forward reverse lent .returned .meter ≡ m) × (exchanged request m forward reverse lent .lent ≡ lent)
+      → LeftAlone m (exchanged request m forward reverse lent .returned .meter) × LeftAlone lent (exchanged request m forward reverse lent .lent)
 
 -- Of each operation: what it answers is no refusal, or nothing changed.
 receiver-kept : (s : Symbol) (r : Receiver) (m : List ℕ) (n : ℕ) → called s r m .answer .answer ≡ receiving.Refused n
-    → (called s r m .answer .receiver ≡ r) × (called s r m .memory ≡ m)
+    → LeftAlone r (called s r m .answer .receiver) × LeftAlone m (called s r m .memory)
 unfolding called refused delivered
 receiver-kept s r m n =
     pick-cases P (withinRange r)
@@ -106,7 +107,7 @@ receiver-kept s r m n =
     (λ _ e. (refl, refl))
   where
     P : Outcome Received → Type 0
-    P o = o .answer .answer ≡ receiving.Refused n → (o .answer .receiver ≡ r) × (o .memory ≡ m)
+    P o = o .answer .answer ≡ receiving.Refused n → LeftAlone r (o .answer .receiver) × LeftAlone m (o .memory)
 
 fresh-out-of-range : (address : List ℕ) (n : ℕ) → created address .answer ≡ host.Refused n
     → withinRanges (created address .meter) (created address .energies .forward) (created address .energies .reverse) ≡ false
@@ -118,16 +119,16 @@ fresh-out-of-range address n = go (isGood address) _
     go false rest e = refl
 
 key-kept : (on : Bool) (m : Meter) (forward reverse : Rows) (n : ℕ) → keySet on m forward reverse .answer ≡ host.Refused n
-    → keySet on m forward reverse .meter ≡ m
+    → LeftAlone m (keySet on m forward reverse .meter)
 unfolding keySet
 key-kept on m forward reverse n =
-    pick-cases (λ (k : KeySet). k .answer ≡ host.Refused n → k .meter ≡ m) (withinRanges m forward reverse)
+    pick-cases (λ (k : KeySet). k .answer ≡ host.Refused n → LeftAlone m (k .meter)) (withinRanges m forward reverse)
     (λ _ e. absurd (let z : _≡_ {A = ℕ} 0 1 = cc in omega arith))
     (λ _ e. refl)
 
 -- Readings that come back with a refusal are those that were given.
 abbrev ReadingsKept : Rows → Rows → ℕ → Counted → Type 0
-ReadingsKept forward reverse n c = c .answer ≡ host.Refused n → c .energies ≡ energiesOf forward reverse
+ReadingsKept forward reverse n c = c .answer ≡ host.Refused n → LeftAlone (energiesOf forward reverse) (c .energies)
 
 pulse-kept : (amount direction rate : ℕ) (within : Bool) (forward reverse : Rows) (n : ℕ)
     → ReadingsKept forward reverse n (counting.pulsedBy amount direction rate within forward reverse)
@@ -152,58 +153,58 @@ settle-kept within forward reverse n =
 
 frame-kept : (bytes : List ℕ) (m : Meter) (forward reverse : Rows) (memory : List ℕ) (n : ℕ)
     → answered bytes m forward reverse memory .answer .answer ≡ frames.Refused n
-    → (answered bytes m forward reverse memory .answer .meter ≡ m) × (answered bytes m forward reverse memory .memory ≡ memory)
+    → LeftAlone m (answered bytes m forward reverse memory .answer .meter) × LeftAlone memory (answered bytes m forward reverse memory .memory)
 unfolding replied
 frame-kept bytes m forward reverse memory n h = go (answers bytes m forward reverse memory)
   where
     go : Answers bytes m forward reverse memory
-        → (answered bytes m forward reverse memory .answer .meter ≡ m) × (answered bytes m forward reverse memory .memory ≡ memory)
+        → LeftAlone m (answered bytes m forward reverse memory .answer .meter) × LeftAlone memory (answered bytes m forward reverse memory .memory)
     go (refuses k small e) = rw e (refl, refl)
     go (errs command b w loud e) = absurd (not-replied (sym (rw e at h)))
     go (carries command w all e) = absurd (not-replied (sym (rw e at h)))
 
-unwritten-kept : (address : List ℕ) (control : ℕ) (meant m : List ℕ) → ((n : ℕ) → writing address control meant m .answer ≡ Length n → ⊥)
-    → writing address control meant m .memory ≡ m
+unwritten-kept : (address : List ℕ) (control : ℕ) (payload m : List ℕ) → ((n : ℕ) → writing address control payload m .answer ≡ Length n → ⊥)
+    → LeftAlone m (writing address control payload m .memory)
 unfolding writing
-unwritten-kept address control meant m =
-    pick-cases P (leb (length meant) 200)
-    (λ _. pick-cases P (leb (12 + length meant) (length m)) (λ _ h. absurd (h (12 + length meant) refl)) (λ _ h. refl))
+unwritten-kept address control payload m =
+    pick-cases P (leb (length payload) 200)
+    (λ _. pick-cases P (leb (12 + length payload) (length m)) (λ _ h. absurd (h (12 + length payload) refl)) (λ _ h. refl))
     (λ _ h. refl)
   where
     P : Outcome Written → Type 0
-    P o = ((n : ℕ) → o .answer ≡ Length n → ⊥) → o .memory ≡ m
+    P o = ((n : ℕ) → o .answer ≡ Length n → ⊥) → LeftAlone m (o .memory)
 
 value-kept : (identifier : ℕ) (address registers : List ℕ) (forward reverse : Rows) (m : List ℕ)
     → ((n : ℕ) → valueWritten identifier address registers forward reverse m .answer ≡ held.Length n → ⊥)
-    → valueWritten identifier address registers forward reverse m .memory ≡ m
+    → LeftAlone m (valueWritten identifier address registers forward reverse m .memory)
 unfolding valueWritten
 value-kept identifier address registers forward reverse m = go (itemOf identifier)
   where
     P : Outcome Held → Type 0
-    P o = ((n : ℕ) → o .answer ≡ held.Length n → ⊥) → o .memory ≡ m
+    P o = ((n : ℕ) → o .answer ≡ held.Length n → ⊥) → LeftAlone m (o .memory)
 
     go : (l : Lookup) → P (writtenOf l address registers forward reverse m)
     go NotListed = λ h. refl
     go (Listed item) = pick-cases P (leb (item .length) (length m)) (λ _ h. absurd (h (item .length) refl)) (λ _ h. refl)
 
 registers-kept : (identifier : ℕ) (value registers : List ℕ)
-    → ((item : Item) (at : ℕ) → itemOf identifier ≡ Listed item → placeOf (item .kind) ≡ Register at → length value ≡ item .length → ⊥)
-    → registersAfter identifier value registers ≡ registers
+    → ((item : Item) (at : ℕ) → itemOf identifier ≡ Listed item → locationOf (item .kind) ≡ Register at → length value ≡ item .length → ⊥)
+    → LeftAlone registers (registersAfter identifier value registers)
 unfolding registersAfter registersWith
 registers-kept identifier value registers none = of-item (itemOf identifier) refl
   where
-    at-place : (item : Item) (place : Place) → itemOf identifier ≡ Listed item → placeOf (item .kind) ≡ place → (t : Bool)
-        → eqb (length value) (item .length) ≡ t → pick t (registersWith place value registers) registers ≡ registers
-    at-place item (Readings direction rate rates row rows) listed e true h = refl
-    at-place item OwnAddress listed e true h = refl
-    at-place item (Register at) listed e true h = absurd (none item at listed e (eqb-true _ _ h))
-    at-place item place listed e false h = refl
+    at-location : (item : Item) (location : Location) → itemOf identifier ≡ Listed item → locationOf (item .kind) ≡ location → (t : Bool)
+        → eqb (length value) (item .length) ≡ t → pick t (registersWith location value registers) registers ≡ registers
+    at-location item (Readings direction rate rates row rows) listed e true h = refl
+    at-location item OwnAddress listed e true h = refl
+    at-location item (Register at) listed e true h = absurd (none item at listed e (eqb-true _ _ h))
+    at-location item location listed e false h = refl
 
     of-item : (l : Lookup) → itemOf identifier ≡ l → pick (hasLength l (length value)) (registersOf l value registers) registers ≡ registers
     of-item NotListed e = refl
-    of-item (Listed item) e = at-place item (placeOf (item .kind)) e refl (eqb (length value) (item .length)) refl
+    of-item (Listed item) e = at-location item (locationOf (item .kind)) e refl (eqb (length value) (item .length)) refl
 
-build-kept : (request : Request) (m : List ℕ) (n : ℕ) → built request m .answer ≡ building.Refused n → built request m .memory ≡ m
+build-kept : (request : Request) (m : List ℕ) (n : ℕ) → built request m .answer ≡ building.Refused n → LeftAlone m (built request m .memory)
 unfolding built
 build-kept request m n =
     pick-cases P (leb 66 (length m))
@@ -211,9 +212,9 @@ build-kept request m n =
     (λ _ e. refl)
   where
     P : Outcome Built → Type 0
-    P o = o .answer ≡ building.Refused n → o .memory ≡ m
+    P o = o .answer ≡ building.Refused n → LeftAlone m (o .memory)
 
-judge-kept : (request : Request) (bytes m : List ℕ) (n : ℕ) → judged request bytes m .answer ≡ judging.Refused n → judged request bytes m .memory ≡ m
+judge-kept : (request : Request) (bytes m : List ℕ) (n : ℕ) → judged request bytes m .answer ≡ judging.Refused n → LeftAlone m (judged request bytes m .memory)
 unfolding judged
 judge-kept request bytes m n h = rw h
 
@@ -225,7 +226,7 @@ over-not-refused request delivered (frames.Refused k) m reply value n e = let z 
 
 exchange-kept : (request : Request) (m : Meter) (forward reverse : Rows) (lent : Memories) (n : ℕ)
     → exchanged request m forward reverse lent .returned .answer ≡ exchanging.Refused n
-    → (exchanged request m forward reverse lent .returned .meter ≡ m) × (exchanged request m forward reverse lent .lent ≡ lent)
+    → LeftAlone m (exchanged request m forward reverse lent .returned .meter) × LeftAlone lent (exchanged request m forward reverse lent .lent)
 unfolding exchanged carried concluded
 exchange-kept request m forward reverse lent n =
     pick-cases P (withinRanges m forward reverse)
@@ -240,7 +241,7 @@ exchange-kept request m forward reverse lent n =
         over-not-refused request (length (requestFrame request)) (a .answer .answer) (a .answer .meter) (a .memory) (lent .value) n e
 
     P : ExchangeOutcome → Type 0
-    P o = o .returned .answer ≡ exchanging.Refused n → (o .returned .meter ≡ m) × (o .lent ≡ lent)
+    P o = o .returned .answer ≡ exchanging.Refused n → LeftAlone m (o .returned .meter) × LeftAlone lent (o .lent)
 
 -- Demand 1.
 pub demand-1 : RefusalsChangeNothing

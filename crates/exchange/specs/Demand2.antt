@@ -5,8 +5,8 @@ use mathlib.Core.List.{List}
 use mathlib.Core.Bool.{true}
 use Rattle.energy.specs.Energies.{Rows}
 use Rattle.line.specs.Receiver.{fresh}
-use Rattle.line.specs.Demand3.{Call, Calls}
-use Rattle.meter.specs.Meter.{Sized}
+use Rattle.line.specs.Demand3.{ReceiverCall, Calls}
+use Rattle.meter.specs.Meter.{MeterSized}
 use Rattle.meter.specs.Ranges.{InRanges}
 use Rattle.meter.specs.declared.Meter.{Meter}
 use Rattle.reader.specs.Allowed.{isAllowed}
@@ -17,25 +17,26 @@ use Rattle.reader.specs.declared.Request.{Request}
 use Rattle.exchange.specs.Exchange.{Memories}
 use Rattle.exchange.specs.Hearing.{Brings, DeliveredLast, delivered-last}
 use Rattle.exchange.specs.EndToEnd.{Typed, MeantFor, IsRead, EnoughMemory, ReadGives, Authorised, WriteSets, WriteFails, GetsSilence}
-use Rattle.exchange.specs.Steps.{request-frame}
+use Rattle.exchange.specs.RequestFrameLaws.{request-frame}
 use Rattle.exchange.specs.Reads.{read-gives}
 use Rattle.exchange.specs.WritesAcross.{write-sets, write-fails}
 use Rattle.exchange.specs.Foreign.{gets-silence}
+use Rattle.item_command.specs.Reply.{notAuthorised}
 
 -- What holds of an exchange of a request with a meter.
 pub record EndToEnd (request : Request) (m : Meter) (forward reverse : Rows) (lent : Memories) : Type 0 where
   -- A fresh receiver delivers exactly one frame, with the request's last byte and not before, whatever memory each call is lent.
-  pub heard : (calls : List Call) → Brings (requestBytes request) calls → Calls fresh calls → DeliveredLast (requestFrame request) calls
+  pub heard : (calls : List ReceiverCall) → Brings (requestBytes request) calls → Calls fresh calls → DeliveredLast (requestFrame request) calls
   -- A read meant for this meter gives what it holds.
   pub read : IsRead (request .action) → MeantFor request m → ReadGives request m forward reverse lent
   -- A write meant for this meter sets the value and the operator code exactly when every check holds.
   pub written : request .action ≡ WriteData → MeantFor request m → Authorised request m → WriteSets request m forward reverse lent
-  pub not-written : request .action ≡ WriteData → MeantFor request m → (Authorised request m → ⊥) → WriteFails request m forward reverse lent
+  pub not-written : request .action ≡ WriteData → MeantFor request m → (Authorised request m → ⊥) → WriteFails request m forward reverse lent notAuthorised
   -- A request to another address gets silence.
   pub foreign : (MeantFor request m → ⊥) → GetsSilence request m forward reverse lent
 
 -- Demand 2.
-pub demand-2 : (request : Request) → Typed request → AllowedInWords (request .action) request → (m : Meter) (forward reverse : Rows) → Sized m
+pub demand-2 : (request : Request) → Typed request → AllowedInWords (request .action) request → (m : Meter) (forward reverse : Rows) → MeterSized m
     → InRanges m forward reverse → (lent : Memories) → EnoughMemory lent → EndToEnd request m forward reverse lent
 unfolding requestBytes
 demand-2 request typed words m forward reverse sized ranges lent room =

@@ -6,46 +6,40 @@ use mathlib.Core.Bool.{true}
 use lib.ListN.{length}
 use lib.Dec.{eqb}
 use Rattle.frame.specs.Frame.{frameFor}
-use Rattle.laws.specs.Memory.{Bytes, over, pick}
+use Rattle.laws.specs.Memory.{Bytes, over}
+use Rattle.laws.specs.Test.{pick}
 use Rattle.frame.specs.Refusals.{notForThisMeter}
-use Rattle.item_command.specs.Reply.{notAuthorised}
 use Rattle.item.specs.Table.{itemOf}
 use Rattle.item.specs.declared.table.Kind.the-variants.{Energy}
 use Rattle.item.specs.declared.table.Item.{Item}
 use Rattle.item.specs.declared.table.Lookup.the-variants.{Listed}
 use Rattle.energy.specs.Energies.{Rows}
-use Rattle.meter.specs.Meter.{valueHeld}
+use Rattle.meter.specs.Meter.{valueHeld, untouched}
 use Rattle.meter_decision.specs.Decision.{passwordAt}
 use Rattle.meter.specs.Ranges.{InRanges}
 use Rattle.meter.specs.Answer.{valueOf}
-use Rattle.meter.specs.Silence.{IsFor}
+use Rattle.item_command.specs.Addressee.{IsFor}
 use Rattle.meter.specs.declared.Meter.{Meter}
-use Rattle.item_command.specs.declared.Command.{Command}
-use Rattle.item_command.specs.declared.Command.the-variants as command
-use Rattle.reader.specs.Allowed.{Sized, requestValue}
+use Rattle.reader.specs.Allowed.{RequestSized, requestValue}
 use Rattle.reader.specs.Building.{sentTo, requestFrame, requestBytes}
 use Rattle.item_identifier.specs.Identifier.{identifierBytes}
+use Rattle.reader_judgement.specs.Judging.{commandFor}
 use Rattle.reader_judgement.specs.declared.Action.{Action}
 use Rattle.reader_judgement.specs.declared.Action.the-variants.{ReadData, ReadAddress, WriteData}
 use Rattle.reader.specs.declared.Request.{Request}
 use Rattle.reader_judgement.specs.declared.Judgement.the-variants.{Value, Error}
 use Rattle.exchange.specs.Exchange.{Memories, memories, ExchangeOutcome, outcomeOf, exchangedWith, exchanged}
-use Rattle.exchange.specs.Readings.{decoded, columnsReadings}
+use Rattle.item_decimal.specs.Decimal.{decoded}
+use Rattle.energy.specs.Decoded.{columnsNumbers}
 use Rattle.exchange.specs.declared.ExchangeAnswer.{ExchangeAnswer}
 use Rattle.exchange.specs.declared.ExchangeAnswer.the-variants.{Silent, Judged}
 
 -- What the type says of a request.
 pub record Typed (request : Request) : Type 0 where
-  pub sized : Sized request
+  pub sized : RequestSized request
   pub identifier : request .identifier < 4294967296
   pub password : Bytes (request .password)
   pub operator : Bytes (request .operator)
-
--- The command that a meter knows an action as.
-abbrev pub commandFor : Action → Command
-commandFor ReadData = command.ReadData
-commandFor ReadAddress = command.ReadAddress
-commandFor WriteData = command.WriteData
 
 -- Document 01's check 4: the request is meant for this meter.
 abbrev pub MeantFor : Request → Meter → Type 0
@@ -83,18 +77,18 @@ comesTo request after answer reply value lent =
     outcomeOf (exchangedWith after answer (length (requestFrame request)) (length reply))
     (memories (over (requestBytes request) (lent .sent)) (over (requestFrame request) (lent .heard)) (over reply (lent .reply)) (over value (lent .value)))
 
--- A read gives the reader exactly what the meter holds, and the meter is as it was; for energies this decodes to the numbers at the rows
+-- A read gives the reader exactly what the meter holds, and leaves the meter untouched; for energies this decodes to the numbers at the rows
 -- and columns in document 01's order.
 pub record ReadGives (request : Request) (m : Meter) (forward reverse : Rows) (lent : Memories) : Type 0 where
   pub outcome : let held = heldFor (request .action) (request .identifier) m forward reverse in
       exchanged request m forward reverse lent
-      ≡ comesTo request m (Judged (Value (length held))) (replyFrame (request .action) (request .identifier) (m .address) held) held lent
+      ≡ comesTo request (untouched m) (Judged (Value (length held))) (replyFrame (request .action) (request .identifier) (m .address) held) held lent
   pub numbers : (item : Item) (direction rate rates row rows : ℕ) → request .action ≡ ReadData → itemOf (request .identifier) ≡ Listed item
       → item .kind ≡ Energy direction rate rates row rows
       → decoded (rates * rows) (heldFor (request .action) (request .identifier) m forward reverse)
-      ≡ columnsReadings (pick (eqb direction 0) forward reverse) rate rates row rows
+      ≡ columnsNumbers (pick (eqb direction 0) forward reverse) rate rates row rows
 
--- The checks of a write that an allowed request does not settle: key on, level at most 04, and the password of that level right.
+-- The checks of a write that an allowed request leaves open: key on, level at most 04, and the password of that level right.
 pub record Authorised (request : Request) (m : Meter) : Type 0 where
   pub key-on : m .key ≡ true
   pub level : request .level ≤ 4
@@ -116,11 +110,11 @@ pub record WriteSets (request : Request) (m : Meter) (forward reverse : Rows) (l
   pub passwords : after .passwords ≡ m .passwords
   pub ranges : InRanges after forward reverse
 
--- A write that is not authorised is answered by error byte 04, and nothing moved.
-abbrev pub WriteFails : Request → Meter → Rows → Rows → Memories → Type 0
-WriteFails request m forward reverse lent =
+-- A write that fails a check is answered by its error byte, and leaves the meter untouched.
+abbrev pub WriteFails : Request → Meter → Rows → Rows → Memories → ℕ → Type 0
+WriteFails request m forward reverse lent byte =
     exchanged request m forward reverse lent
-    ≡ comesTo request m (Judged (Error notAuthorised)) (frameFor (m .address) 0xD4 (notAuthorised ∷ [])) [] lent
+    ≡ comesTo request (untouched m) (Judged (Error byte)) (frameFor (m .address) 0xD4 (byte ∷ [])) [] lent
 
 -- A request to another address gets silence, and nothing moved.
 abbrev pub GetsSilence : Request → Meter → Rows → Rows → Memories → Type 0

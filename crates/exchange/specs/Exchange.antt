@@ -5,9 +5,10 @@ use mathlib.Core.List.{List}
 use mathlib.Core.Bool.{Bool, _&&_}
 use lib.ListN.{length, take, drop}
 use lib.Dec.{leb}
-use Rattle.laws.specs.Memory.{Outcome, outcome, over, pick}
+use Rattle.laws.specs.Memory.{Outcome, outcome, over}
+use Rattle.laws.specs.Test.{pick}
 use Rattle.frame.specs.Refusals.{shortMemory, notAllowed, outOfRange}
-use Rattle.frame.specs.Frame.{Frame}
+use Rattle.frame.specs.Frame.{Frame, mostFrame}
 use Rattle.energy.specs.Energies.{Rows}
 use Rattle.meter.specs.Meter.{withinRanges}
 use Rattle.meter.specs.Answer.{answered}
@@ -16,8 +17,8 @@ use Rattle.meter.specs.declared.Answered.{Answered}
 use Rattle.meter.specs.declared.FrameAnswer.{FrameAnswer}
 use Rattle.meter.specs.declared.FrameAnswer.the-variants as frames
 use Rattle.reader.specs.Allowed.{isAllowed}
-use Rattle.reader.specs.Building.{wakeUp, requestFrame, requestBytes}
-use Rattle.reader.specs.Judging.{judged}
+use Rattle.reader.specs.Building.{wakeUp, requestFrame, requestBytes, requestMemory}
+use Rattle.reader.specs.Judging.{judged, valueMemory}
 use Rattle.reader.specs.declared.Request.{Request}
 use Rattle.exchange.specs.declared.Exchanged.{Exchanged}
 use Rattle.exchange.specs.declared.ExchangeAnswer.{ExchangeAnswer}
@@ -51,13 +52,14 @@ refusedWith n m = exchangedWith m (Refused n) 0 0
 
 -- At least 66 bytes for the request, 212 for the receiver, 212 for the reply and 196 for the value.
 unfoldable pub isEnough : ℕ → ℕ → ℕ → ℕ → Bool
-isEnough sent heard reply value = leb 66 sent && (leb 212 heard && (leb 212 reply && leb 196 value))
+isEnough sent heard reply value =
+    leb requestMemory sent && (leb mostFrame heard && (leb mostFrame reply && leb valueMemory value))
 
 abbrev pub enough : Memories → Bool
 enough lent = isEnough (length (lent .sent)) (length (lent .heard)) (length (lent .reply)) (length (lent .value))
 
 -- Four FE, and then a frame.
-pub record Woken (bytes : List ℕ) : Type 0 where
+pub record WakeUpFrame (bytes : List ℕ) : Type 0 where
   pub waking : take 4 bytes ≡ wakeUp
   pub frame : Frame (drop 4 bytes)
 

@@ -4,31 +4,32 @@ use mathlib.Core.Path.{_≡_, refl, sym, ap, subst, _∙_}
 use mathlib.Core.List.{List, _∷_, []}
 use mathlib.Core.Bool.{true, false, and-eq-true-iff}
 use native.Mathlib.Omega.{arith}
-use lib.ListN.{length, take, drop, length-append}
-use lib.Seq.{take-at}
+use lib.ListN.{length, drop, length-append}
 use borrow.Author.Tests.{le-leb, leb-true}
 use Rattle.frame.specs.Frame.{Frame, dataOf}
 use Rattle.frame.specs.FrameLaws.{frame-for, frame-for-length}
 use Rattle.laws.specs.Memory.{Outcome, outcome, over}
-use Rattle.laws.specs.MemoryLaws.{pick-cases}
+use Rattle.laws.specs.TestLaws.{pick-cases}
+use Rattle.laws.specs.Puts.{Puts}
 use Rattle.item_command.specs.Reply.{replyTo}
 use Rattle.energy.specs.Energies.{Rows}
 use Rattle.meter.specs.Meter as meter
 use Rattle.item_command.specs.Command.{controlFor}
-use Rattle.meter.specs.Answer.{replies, replyData, meterAfter, delivered, answered}
+use Rattle.meter.specs.Answer.{replies, replyData, meterAfter, delivered, answered, valueAsked}
 use Rattle.meter.specs.AfterLaws.{sized-after}
 use Rattle.meter.specs.AnswerLaws.{Answers, refuses, errs, carries, answers}
 use Rattle.meter.specs.declared.Meter.{Meter}
 use Rattle.meter.specs.declared.Answered.{Answered}
-use Rattle.reader.specs.Allowed.{Sized, isAllowed}
+use Rattle.reader.specs.Allowed.{RequestSized, isAllowed}
 use Rattle.reader.specs.Building.{requestFrame, requestBytes, built}
 use Rattle.reader.specs.BuildingLaws.{request-length, sent-six}
 use Rattle.reader.specs.declared.Built.{Built}
 use Rattle.reader.specs.declared.Built.the-variants.{Length, Refused}
 use Rattle.reader.specs.declared.Request.{Request}
-use Rattle.exchange.specs.Exchange.{Memories, memories, outcomeOf, isEnough, enough, Woken, WithinReply, concluded, carried}
+use Rattle.exchange.specs.Exchange.{Memories, memories, outcomeOf, isEnough, enough, WakeUpFrame, WithinReply, concluded, carried}
 use Rattle.exchange.specs.EndToEnd.{EnoughMemory}
 use Rattle.exchange.specs.declared.Exchanged.{Exchanged}
+use Rattle.meter.specs.MeterLaws.{untouched-sized}
 
 -- Memory of which the test holds has the asked sizes.
 pub enough-memory : (lent : Memories) → enough lent ≡ true → EnoughMemory lent
@@ -41,19 +42,6 @@ enough-memory lent h =
       reply = leb-true _ _ (parts .1 .1 .0);
       value = leb-true _ _ (parts .1 .1 .1);
     }
-
--- Bytes are put over the front of a memory, and they are `n`.
-pub record Puts (bytes : List ℕ) (n : ℕ) (m left : List ℕ) : Type 0 where
-  pub count : n ≡ length bytes
-  pub memory : left ≡ over bytes m
-
--- They lie within the memory, and are its front.
-module _ {bytes : List ℕ} {n : ℕ} {m left : List ℕ} (puts : Puts bytes n m left) where
-  pub front-within : n ≤ length left
-  front-within = rw (puts .memory, length-append) (omega (arith, puts .count))
-
-  pub front-put : take n left ≡ bytes
-  front-put = rw (puts .memory) (take-at bytes (drop (length bytes) m) n (sym (puts .count)))
 
 -- A length is no refusal.
 no-refusal : {n k : ℕ} → Length n ≡ Refused k → ⊥
@@ -81,7 +69,7 @@ module _ (request : Request) {answer : Built} {m left : List ℕ} (room : 66 ≤
       (rw (le-leb 66 (length m) room) at e)
 
 -- The frame of an allowed request is one.
-pub sent-frame : (request : Request) → Sized request → isAllowed request ≡ true → Frame (requestFrame request)
+pub sent-frame : (request : Request) → RequestSized request → isAllowed request ≡ true → Frame (requestFrame request)
 unfolding requestFrame
 sent-frame request sized allowed =
     let few = request-length request sized allowed in
@@ -89,9 +77,9 @@ sent-frame request sized allowed =
 
 module _ (request : Request) {bytes : List ℕ} (same : bytes ≡ requestBytes request) where
   -- The bytes of an allowed request are four FE and that frame.
-  pub request-woken : Sized request → isAllowed request ≡ true → Woken bytes
+  pub request-shape : RequestSized request → isAllowed request ≡ true → WakeUpFrame bytes
   unfolding requestBytes
-  request-woken sized allowed = rw same (record { waking = refl; frame = sent-frame request sized allowed })
+  request-shape sized allowed = rw same (record { waking = refl; frame = sent-frame request sized allowed })
 
   -- Where they are heard, it is the request's frame that is put into the receiver's memory.
   pub heard-puts : {n : ℕ} {m left : List ℕ} → outcome n left ≡ outcome (length (drop 4 bytes)) (over (drop 4 bytes) m)
@@ -102,27 +90,27 @@ module _ (request : Request) {bytes : List ℕ} (same : bytes ≡ requestBytes r
       record { count = ap (λ (o : Outcome ℕ). o .answer) f; memory = ap (λ (o : Outcome ℕ). o .memory) f }
 
 -- A reply lies within the memory that it is answered with.
-abbrev Lies : Outcome Answered → Type 0
-Lies o = WithinReply (o .answer .answer) (o .memory)
+abbrev WithinMemory : Outcome Answered → Type 0
+WithinMemory o = WithinReply (o .answer .answer) (o .memory)
 
 module _ (bytes : List ℕ) (m : Meter) (forward reverse : Rows) (memory : List ℕ) {answer : Answered} {reply : List ℕ}
     (a : outcome answer reply ≡ answered bytes m forward reverse memory) where
   -- A frame that is delivered has the length that is answered.
-  frame-lies : (control : ℕ) (meant : List ℕ) (after : Meter) → length (after .address) ≡ 6
-      → answered bytes m forward reverse memory ≡ delivered (replies control meant after) m memory → WithinReply (answer .answer) reply
+  frame-within : (control : ℕ) (payload : List ℕ) (after : Meter) → length (after .address) ≡ 6
+      → answered bytes m forward reverse memory ≡ delivered (replies control payload after) m memory → WithinReply (answer .answer) reply
   unfolding delivered
-  frame-lies control meant after six e =
-      subst Lies (sym (a ∙ e)) (rw length-append (omega (arith, frame-for-length (after .address) control meant six)))
+  frame-within control payload after six e =
+      subst WithinMemory (sym (a ∙ e)) (rw length-append (omega (arith, frame-for-length (after .address) control payload six)))
 
   -- So does a meter's reply.
-  pub reply-within : meter.Sized m → WithinReply (answer .answer) reply
+  pub reply-within : meter.MeterSized m → WithinReply (answer .answer) reply
   reply-within sized = go (answers bytes m forward reverse memory)
     where
       go : Answers bytes m forward reverse memory → WithinReply (answer .answer) reply
-      go (refuses k small e) = subst Lies (sym (a ∙ e)) tt
-      go (errs command b w loud e) = frame-lies (replyTo (controlFor command) true) (b ∷ []) m (sized .address) e
+      go (refuses k small e) = subst WithinMemory (sym (a ∙ e)) tt
+      go (errs command b w loud e) = frame-within (replyTo (controlFor command) true) (b ∷ []) (meter.untouched m) (untouched-sized m sized .address) e
       go (carries command w all e) =
-          frame-lies (replyTo (controlFor command) false) (replyData command (dataOf bytes) m forward reverse)
+          frame-within (replyTo (controlFor command) false) (replyData command (dataOf bytes) m (valueAsked (dataOf bytes) m forward reverse))
           (meterAfter command (dataOf bytes) m) (sized-after command (dataOf bytes) m sized all .address) e
 
 -- Each step done on what the one before it left is the exchange carried through.

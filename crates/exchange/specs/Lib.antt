@@ -1,10 +1,9 @@
 pub mod Exchange
 pub mod HearingLaws
 pub mod Hearing
-pub mod Readings
 pub mod EndToEnd
 pub mod ExchangeLaws
-pub mod Steps
+pub mod RequestFrameLaws
 pub mod ReplyLaws
 pub mod Reads
 pub mod WritesAcross

@@ -2,6 +2,7 @@
 // reply is judged. Demand 2 of the letter, end to end, is `demand-2` in specs/Demand2.antt; demand 1, gathered, is `demand-1` in
 // specs/Demand1.antt; document 01's cases A to I are one table in specs/Cases.antt.
 use energy::Rows;
+use frame::MOST_FRAME;
 use frame::refusal::NOT_ALLOWED;
 use frame::refusal::OUT_OF_RANGE;
 use frame::refusal::SHORT_MEMORY;
@@ -12,13 +13,16 @@ use meter::Answered;
 use meter::FrameAnswer;
 use meter::Meter;
 use reader::Built;
+use reader::REQUEST_MEMORY;
 use reader::Request;
+use reader::VALUE_MEMORY;
 use reader_judgement::Judgement;
 ghost use mathlib.Core.Path.{_≡_};
 ghost use Prim.Native.Nat.{_≤_};
 ghost use lib.ListN.{length, drop};
 ghost use Rattle.laws.specs.Memory.{outcome, over};
-ghost use Rattle.exchange.specs.Exchange.{Woken, WithinReply, refusedWith, concluded, isEnough, outcomeOf, memories, exchanged};
+ghost use Rattle.frame.specs.Frame.{mostFrame};
+ghost use Rattle.exchange.specs.Exchange.{WakeUpFrame, WithinReply, refusedWith, concluded, isEnough, outcomeOf, memories, exchanged};
 
 // The answer to an exchange.
 pub enum ExchangeAnswer {
@@ -55,22 +59,14 @@ fn refused(meter: Meter, refusal: u8) -> Exchanged
 fn is_enough(sent: usize, heard: usize, reply: usize, value: usize) -> bool
     ensures { λ r. ⌜ r ≡ isEnough sent heard reply value ⌝ }
 {
-    if sent < 66 {
-        return false;
-    }
-    if heard < 212 {
-        return false;
-    }
-    if reply < 212 {
-        return false;
-    }
-    196 <= value
+    (REQUEST_MEMORY <= sent)
+        & ((MOST_FRAME <= heard) & ((MOST_FRAME <= reply) & (VALUE_MEMORY <= value)))
 }
 
 // A fresh receiver hears four FE and a frame: the last byte delivers the frame to the front of the output buffer.
 fn hear(sent: &[u8], heard: &mut [u8]) -> usize
-    requires { ⌜ Woken (now sent) ⌝ }
-    requires { ⌜ 212 ≤ length (now heard) ⌝ }
+    requires { ⌜ WakeUpFrame (now sent) ⌝ }
+    requires { ⌜ mostFrame ≤ length (now heard) ⌝ }
     ensures { λ r. ⌜ outcome r (now (heard .exit)) ≡ outcome (length (drop 4 (now (sent .entry)))) (over (drop 4 (now (sent .entry))) (now (heard .entry))) ⌝ }
 {
     let fresh = Receiver::new();

@@ -9,37 +9,40 @@ use lib.Seq.{drop-nil}
 use borrow.Author.Tests.{le-leb}
 use native.Mathlib.Omega.{arith}
 use Rattle.frame.specs.Examples.{one, caseA, caseB, caseC, caseD, caseE, caseI}
+use Rattle.laws.specs.All.{allOf}
 use Rattle.laws.specs.Memory.{Outcome, outcome, over}
 use Rattle.frame.specs.Frame.{total, checksumOf, masked, unmasked, summed, frameOf, addressOf, controlOf, lengthOf, fieldOf, dataOf, frameFor}
 use Rattle.frame.specs.Recognition.{recognised, recognisedBody, recognisedEnd, isAll, exactlyOne}
 use Rattle.frame.specs.RecognitionLaws.{one-frame}
-use Rattle.item_address.specs.Address.{isGood, lowBytes, isShortCount, hasShortForm, isShort}
+use Rattle.item_address.specs.Address.{isGood, lowBytes, hasShortForm, isShort}
 use Rattle.laws.specs.Checks.{firstFailing}
-use Rattle.item.specs.Content.{digitsAt, within, minutesInRange, inRange, contentOf}
+use Rattle.item_range.specs.Range.{within}
+use Rattle.item.specs.Content.{digitsAt, minutesInRange, inRange, contentOf}
 use Rattle.item_decimal.specs.Decimal.{isDecimal, firstBadFrom, firstBad, allDecimal, digits, lowDigits, packed}
 use Rattle.item_command.specs.Reply.{controlCode, replyTo}
 use Rattle.item_same.specs.Same.{same}
 use Rattle.item.specs.Table.{itemOf, energyItem, readings, otherRows, found}
-use Rattle.energy.specs.Reading.{readingInRange, readingBytes}
+use Rattle.energy.specs.Reading.{zeroReading, readingOf, readingInRange, readingBytes}
 use Rattle.energy.specs.Energies.{Rows, rowInRange, rowsInRange, zeroRows, readingAt}
 use Rattle.line_terms.specs.Line.{Symbol, byte, silence, Choice, Keeps, Certain}
 use Rattle.line_terms.specs.Places.{Found, Rising, joined}
 use Rattle.line_terms.specs.PlaceLaws.{rising-same}
-use Rattle.line_terms.specs.Scan.{scan, readingBy, before, begins, settled, broken, bytesBefore}
+use Rattle.line_terms.specs.Scan.{scan, readingBy, before, begins, beforeSilence, broken, bytesBefore}
 use Rattle.line.specs.Receiver.{fresh}
 use Rattle.line_terms.specs.ScanLaws.{scan-rising}
 use Rattle.line_terms.specs.Closed.{taken-found}
 use Rattle.line_terms.specs.ScanCertain.{found-certain, certain-found}
-use Rattle.line.specs.Demand3.{Call, Calls, heard, deliveredBytes, demand-3}
-use Rattle.meter_holding.specs.Columns.{columnBytes, columnsBytes}
-use Rattle.meter.specs.Meter.{withKey, withRegisters, withinRanges, freshMeter}
+use Rattle.line.specs.Demand3.{Calls, heard, deliveredBytes, demand-3, ReceiverCall}
+use Rattle.meter.specs.Meter.{withKey, withRegisters, withinRanges, freshMeter, untouched}
+use Rattle.energy.specs.Columns.{columnBytes, columnsBytes}
 use Rattle.meter_decision.specs.Decision.{passwordAt, authorised, checksOf}
 use Rattle.meter_holding.specs.Holding as holding
-use Rattle.meter_holding.specs.Holding.{placeOf, heldAt, registersWith}
+use Rattle.meter_holding.specs.Holding.{locationOf, heldAt, registersWith}
 use Rattle.laws.specs.Part.{withPart}
 use Rattle.meter_decision.specs.Request.{itemAsked, levelOf, passwordOf, operatorOf, writtenValue}
 use Rattle.item_identifier.specs.Identifier.{identifierOf, identifierBytes}
-use Rattle.item_command.specs.Command.{commandOf, addressed}
+use Rattle.item_command.specs.Command.{commandOf}
+use Rattle.item_command.specs.Addressee.{namesMeter, addressed}
 use Rattle.meter.specs.Ranges.{within-ranges}
 use Rattle.meter.specs.AnswerLaws.{answered-treated, not-replied}
 use Rattle.meter.specs.Answer.{Treatment, silent, replies, replyData, meterAfter, carriedOut, treated, answeredWith, delivered, answered}
@@ -47,10 +50,10 @@ use Rattle.meter.specs.declared.Meter.{Meter}
 use Rattle.meter.specs.declared.Answered.{Answered}
 use Rattle.meter.specs.declared.FrameAnswer.the-variants.{Replied}
 use Rattle.reader.specs.Allowed.{requestValue, isAllowed}
-use Rattle.reader_allowed.specs.Allowed.{addressAllowed, valueConditions, conditionsOf, admission}
+use Rattle.reader_allowed.specs.Allowed.{addressAllowed, contentChecks, valueConditions, conditionsOf, admission}
 use Rattle.reader.specs.Building.{wakeUp, sentData, requestFrame, requestBytes, built}
-use Rattle.reader.specs.Judging.{isAnswer, firstChecks, judgementOf, written, judged}
-use Rattle.reader_judgement.specs.Judging.{isNormal, isError, answersFrom, errorChecks, normalChecks, replyValue, verdict}
+use Rattle.reader.specs.Judging.{isJudged, isAnswer, callChecks, frameChecks, judgementOf, written, judged}
+use Rattle.reader_judgement.specs.Judging.{isNormal, isError, answersFrom, errorChecks, normalChecks, replyValue, dataJudgement}
 use Rattle.reader_judgement.specs.declared.Action.{Action}
 use Rattle.reader_judgement.specs.declared.Action.the-variants.{ReadData, ReadAddress, WriteData}
 use Rattle.reader.specs.declared.Request.{Request}
@@ -105,7 +108,7 @@ abbrev keyOn : Meter
 keyOn = withKey true meter
 
 abbrev total12345678 : Rows
-total12345678 = (12345678 ∷ replicate 4 0) ∷ replicate 12 (replicate 5 0)
+total12345678 = (readingOf 12345678 ∷ replicate 4 zeroReading) ∷ replicate 12 (replicate 5 zeroReading)
 
 -- That meter with the period at 30.
 abbrev periodSet : Meter
@@ -178,7 +181,7 @@ AllCompute [] = Unit
 AllCompute (c ∷ cases) = Computes c × AllCompute cases
 
 computed : AllCompute table
-unfolding scan readingBy before begins settled broken bytesBefore recognised recognisedBody recognisedEnd isAll exactlyOne checksumOf total lengthOf fieldOf dataOf unmasked masked summed frameOf frameFor addressOf controlOf isGood lowBytes isShortCount hasShortForm isShort digitsAt within minutesInRange inRange contentOf isDecimal firstBadFrom firstBad allDecimal digits lowDigits packed controlCode replyTo same itemOf energyItem readings otherRows found readingInRange readingBytes rowInRange rowsInRange readingAt columnBytes columnsBytes withPart passwordAt placeOf heldAt holding.valueHeld registersWith holding.withinRanges freshMeter commandOf addressed identifierOf itemAsked levelOf passwordOf operatorOf writtenValue authorised checksOf replyData meterAfter carriedOut treated delivered requestValue addressAllowed valueConditions conditionsOf admission isAllowed identifierBytes sentData requestFrame requestBytes firstFailing isNormal isError answersFrom isAnswer firstChecks errorChecks normalChecks replyValue verdict judgementOf table
+unfolding scan readingBy before begins broken bytesBefore recognised recognisedBody recognisedEnd isAll exactlyOne checksumOf total lengthOf fieldOf dataOf unmasked masked summed frameOf frameFor addressOf controlOf isGood lowBytes hasShortForm isShort digitsAt within minutesInRange inRange contentOf isDecimal firstBadFrom firstBad allDecimal digits lowDigits packed controlCode replyTo same itemOf energyItem readings otherRows found readingInRange readingBytes rowInRange rowsInRange readingAt columnBytes columnsBytes withPart passwordAt locationOf heldAt holding.valueHeld registersWith holding.withinRanges freshMeter commandOf namesMeter addressed identifierOf itemAsked levelOf passwordOf operatorOf writtenValue authorised checksOf replyData untouched meterAfter carriedOut treated delivered requestValue addressAllowed valueConditions conditionsOf admission isAllowed identifierBytes sentData requestFrame requestBytes firstFailing isNormal isError answersFrom isAnswer errorChecks normalChecks replyValue dataJudgement judgementOf table readingOf allOf contentChecks isJudged callChecks frameChecks beforeSilence
 computed = ((refl, refl), ((refl, refl), ((refl, refl, refl), ((refl, refl), ((refl, refl), ((refl, refl, refl), ((refl, refl), ((refl, refl, refl), ((refl, refl), ((refl, refl), ((refl, refl, refl), ((refl, refl), ((refl, refl, refl), ((refl, refl), ((refl, refl), ((refl, refl), ((refl, refl), ((refl, refl), tt))))))))))))))))))
 
 -- A line: the frames listed are the certain ones, and those that every choice that keeps the rule takes; and calls of a fresh receiver
@@ -186,7 +189,7 @@ computed = ((refl, refl), ((refl, refl), ((refl, refl, refl), ((refl, refl), ((r
 pub record LineCase (symbols : List Symbol) (frames : List Found) : Type 1 where
   pub certain : (place : ℕ) (frame : List ℕ) → List·Memᴰ (at place frame) frames ↔ Certain symbols place frame
   pub taken : (taken : Choice) → Keeps symbols taken → (place : ℕ) (frame : List ℕ) → List·Memᴰ (at place frame) frames ↔ taken place frame
-  pub delivered : (calls : List Call) → Calls fresh calls → heard calls ≡ symbols → deliveredBytes calls ≡ joined frames
+  pub delivered : (calls : List ReceiverCall) → Calls fresh calls → heard calls ≡ symbols → deliveredBytes calls ≡ joined frames
 
 -- A request: whatever memory of at least 66 bytes is lent, these bytes are written over its front.
 pub record RequestCase (asked : Request) (bytes : List ℕ) : Type 1 where
@@ -218,13 +221,13 @@ delivered-over : (t : Treatment) (m after : Meter) (n : ℕ) (reply memory : Lis
 unfolding delivered
 delivered-over (silent k) m after n reply memory e =
     absurd (not-replied (ap (λ (o : Outcome Answered). o .answer .answer) e))
-delivered-over (replies control meant then) m after n reply memory e =
-    let frame : frameFor (then .address) control meant ≡ reply = rw (drop-nil, append-nil) at (ap (λ (o : Outcome Answered). o .memory) e) in
+delivered-over (replies control payload then) m after n reply memory e =
+    let frame : frameFor (then .address) control payload ≡ reply = rw (drop-nil, append-nil) at (ap (λ (o : Outcome Answered). o .memory) e) in
     rw (frame, ap (λ (o : Outcome Answered). o .answer) e)
 
 -- Of the memory lent to the judge only its size matters.
 same-judgement : (asked : Request) (bytes m m′ : List ℕ) → 196 ≤ length m → 196 ≤ length m′ → judgementOf asked bytes m ≡ judgementOf asked bytes m′
-unfolding judgementOf firstChecks
+unfolding judgementOf callChecks
 same-judgement asked bytes m m′ h k = rw (le-leb 196 (length m) h, le-leb 196 (length m′) k)
 
 -- What is written into no memory at all is written over the front of any.
@@ -249,7 +252,7 @@ computes-says (line symbols frames) h =
     rising : Rising frames
     rising = rw (h .0) at (scan-rising 0 0 symbols)
 
-    delivered : (calls : List Call) → Calls fresh calls → heard calls ≡ symbols → deliveredBytes calls ≡ joined frames
+    delivered : (calls : List ReceiverCall) → Calls fresh calls → heard calls ≡ symbols → deliveredBytes calls ≡ joined frames
     delivered calls called e =
         let found = demand-3 calls called .certain in
         let exact : (place : ℕ) (frame : List ℕ) → List·Memᴰ (at place frame) (found .frames) ↔ Certain symbols place frame =

@@ -1,7 +1,9 @@
--- Frames that stand end to end, and bytes cut into frames again where their data lengths say that one ends.
+-- Frames that stand end to end, and bytes cut into frames again where their data lengths say that one ends, all or the next one.
 use Prim.Native.Nat.{ℕ, zero, suc, _+_}
 use mathlib.Core.List.{List, [], _∷_, _++_}
-use lib.ListN.{take}
+use lib.ListN.{length, take, drop}
+use lib.Dec.{leb}
+use Rattle.laws.specs.Test.{pick}
 use Rattle.frame.specs.Frame.{Frame, lengthOf}
 
 -- Bytes that are frames, one behind the other.
@@ -18,3 +20,8 @@ cutFrom zero (b ∷ bytes) = take (12 + lengthOf (b ∷ bytes)) (b ∷ bytes) �
 -- Bytes cut into frames.
 abbrev pub cut : List ℕ → List (List ℕ)
 cut bytes = cutFrom 0 bytes
+
+-- The end of the frame that begins at a place, as its data length says it, or of the bytes where they are too few for it.
+unfoldable pub nextEnd : List ℕ → ℕ → ℕ
+nextEnd bytes at =
+    pick (leb (at + 12 + lengthOf (drop at bytes)) (length bytes)) (at + 12 + lengthOf (drop at bytes)) (length bytes)

@@ -1,10 +1,11 @@
--- Document 01's frames A to E, and what recognition computes on them.
+-- Document 01's frames A to E, and what recognition and the next frame's end compute on them.
 use Prim.Native.Nat.{ℕ}
 use mathlib.Core.Path.{_≡_, refl}
 use mathlib.Core.List.{List, [], _∷_, _++_}
 use lib.ListN.{take, replicate}
 use Rattle.frame.specs.Frame.{total, checksumOf, masked, unmasked, summed, frameOf, addressOf, lengthOf, fieldOf, dataOf, frameFor}
 use Rattle.frame.specs.Recognition.{recognised, recognisedBody, recognisedEnd}
+use Rattle.frame.specs.EndToEnd.{nextEnd}
 use Rattle.frame.specs.declared.Recognised.the-variants.{Whole, Open, Neither}
 
 -- Address 000000000001, low byte first.
@@ -39,7 +40,7 @@ caseE =
 abbrev pub caseI : List ℕ
 caseI = take 14 caseA ++ (0xB4 ∷ 0x16 ∷ [])
 
--- Made of their parts, with the data as they are meant.
+-- Made of their parts, with the data unmasked.
 a-made : frameFor one 0x11 (0x00 ∷ 0x00 ∷ 0x01 ∷ 0x00 ∷ []) ≡ caseA
 unfolding frameFor frameOf summed masked checksumOf total
 a-made = refl
@@ -90,3 +91,20 @@ longest-open = refl
 longer-neither : recognised (take 9 caseA ++ (201 ∷ [])) ≡ Neither
 unfolding recognised recognisedBody recognisedEnd checksumOf total lengthOf
 longer-neither = refl
+
+-- The next frame's end in a delivery of two; the end of bytes that are too few for it, and at a place beyond them.
+first-ends : nextEnd (caseA ++ caseC) 0 ≡ 16
+unfolding nextEnd lengthOf
+first-ends = refl
+
+second-ends : nextEnd (caseA ++ caseC) 16 ≡ 28
+unfolding nextEnd lengthOf
+second-ends = refl
+
+few-end : nextEnd (take 15 caseA) 0 ≡ 15
+unfolding nextEnd lengthOf
+few-end = refl
+
+beyond-end : nextEnd caseC 100 ≡ 12
+unfolding nextEnd lengthOf
+beyond-end = refl

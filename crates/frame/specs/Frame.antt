@@ -13,7 +13,7 @@ total (b ∷ bs) = b + total bs
 unfoldable pub checksumOf : List ℕ → ℕ
 checksumOf bytes = total bytes % 256
 
--- A data byte as it travels, and as it is meant: 33H added or taken off, wrapping at 256.
+-- A data byte masked, as it travels, and unmasked: 33H added or taken off, wrapping at 256.
 unfoldable pub masked : ℕ → ℕ
 masked b = (b + 0x33) % 256
 
@@ -29,9 +29,9 @@ unfoldable pub frameOf : List ℕ → ℕ → List ℕ → List ℕ
 frameOf address control field =
     summed address control field ++ (checksumOf (summed address control field) ∷ 0x16 ∷ [])
 
--- The frame of an address, a control code and data as they are meant.
+-- The frame of an address, a control code and unmasked data.
 unfoldable pub frameFor : List ℕ → ℕ → List ℕ → List ℕ
-frameFor address control meant = frameOf address control (map masked meant)
+frameFor address control payload = frameOf address control (map masked payload)
 
 -- Bytes that are a frame: of a six-byte address field and a data field of at most 200 bytes.
 pub record Frame (bytes : List ℕ) : Type 0 where
@@ -41,6 +41,10 @@ pub record Frame (bytes : List ℕ) : Type 0 where
   pub six : length address ≡ 6
   pub most : length field ≤ 200
   pub made : bytes ≡ frameOf address control field
+
+-- How many bytes the longest frame has.
+abbrev pub mostFrame : ℕ
+mostFrame = 212
 
 -- The parts of a frame, read off its bytes.
 unfoldable pub addressOf : List ℕ → List ℕ
@@ -52,7 +56,7 @@ controlOf bytes = getD bytes 8 0
 unfoldable pub lengthOf : List ℕ → ℕ
 lengthOf bytes = getD bytes 9 0
 
--- The data field as it travels, and the data as they are meant.
+-- The data field as it travels, and the data unmasked.
 unfoldable pub fieldOf : List ℕ → List ℕ
 fieldOf bytes = take (lengthOf bytes) (drop 10 bytes)
 

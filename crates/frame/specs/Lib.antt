@@ -2,9 +2,10 @@ pub mod Refusals
 pub mod Frame
 pub mod Recognition
 pub mod EndToEnd
-pub mod Laws
+pub mod ChecksumLaws
+pub mod TakenApartLaws
 pub mod FrameLaws
-pub mod RecognitionSteps
+pub mod StageLaws
 pub mod RecognitionLaws
 pub mod EndToEndLaws
 pub mod Examples

@@ -1,6 +1,6 @@
 -- What recognition means: whole exactly if a frame stands in front, open exactly if the bytes are a proper beginning of some frame, and
--- more bytes change only an open verdict. Callers cite these laws and never the text of `recognised`.
-use Prim.Native.Nat.{ℕ, zero, suc, _+_, _-_, _≤_, _<_}
+-- more bytes change only what is open. Callers cite these laws and never the text of `recognised`.
+use Prim.Native.Nat.{ℕ, _+_, _-_, _≤_, _<_}
 use native.Mathlib.Omega.{arith}
 use native.Mathlib.Nat.{mod-lt}
 use mathlib.Core.Path.{_≡_, refl, sym, ap, subst, _∙_}
@@ -11,11 +11,12 @@ use lib.Seq.{take-all, getD-append-add, getD-drop}
 use lib.Dec.{leb}
 use borrow.Author.Tests.{leb-true, leb-false, eqb-true, eq-eqb, ne-eqb}
 use Rattle.frame.specs.Frame.{Frame, frameOf, summed, checksumOf, lengthOf, masked, frameFor}
-use Rattle.laws.specs.Memory.{Bytes}
-use Rattle.frame.specs.Laws.{summed-length, length-part}
+use Rattle.laws.specs.AllLaws.{all-drop, all-append, all-replicate}
+use Rattle.laws.specs.Memory.{IsByte, Bytes}
+use Rattle.frame.specs.TakenApartLaws.{summed-length, length-part}
 use Rattle.frame.specs.FrameLaws.{frame-length, frame-for}
 use Rattle.frame.specs.Recognition.{stage, recognised, recognisedBody, recognisedEnd, exactlyOne, isAll}
-use Rattle.frame.specs.RecognitionSteps.{stage-cases, stage-wrong, stays, Headed, headed-longer, headed-closes, front-closes, closed-whole, same-length, summed-says, summed-headed, take-next}
+use Rattle.frame.specs.StageLaws.{stage-cases, stage-wrong, stays, Headed, headed-longer, headed-closes, front-closes, closed-whole, same-length, summed-says, summed-headed, take-next}
 use Rattle.frame.specs.declared.Recognised.{Recognised}
 use Rattle.frame.specs.declared.Recognised.the-variants.{Whole, Open, Neither}
 
@@ -36,7 +37,7 @@ frame-least {f} w = omega (arith, frame-size w)
 pub frame-most : {f : List ℕ} → Frame f → length f ≤ 212
 frame-most {f} w = omega (arith, frame-size w)
 
--- More bytes change only an open verdict.
+-- More bytes change only what is open.
 pub whole-stays : (x more : List ℕ) (n : ℕ) → recognised x ≡ Whole n → recognised (x ++ more) ≡ Whole n
 whole-stays x more n e = stays x more (λ o. let z : _≡_ {A = ℕ} 0 1 = cc in omega arith) ∙ e
 
@@ -67,25 +68,11 @@ record Begins (x : List ℕ) (n : ℕ) : Type 0 where
   within : n ≤ length x
   frame : Frame (take n x)
 
--- What each verdict means.
+-- What each answer means.
 abbrev Meaning : List ℕ → Recognised → Type 0
 Meaning x (Whole n) = Begins x n
 Meaning x Open = Completion x
 Meaning x Neither = Unit
-
--- Bytes joined, zeros, and the rest of bytes, are bytes.
-pub bytes-append : (a b : List ℕ) → Bytes a → Bytes b → Bytes (a ++ b)
-bytes-append [] b p q = q
-bytes-append (c ∷ a) b p q = (p .0, bytes-append a b (p .1) q)
-
-bytes-zeros : (n : ℕ) → Bytes (replicate n 0)
-bytes-zeros zero = tt
-bytes-zeros (suc n) = (omega arith, bytes-zeros n)
-
-bytes-drop : (n : ℕ) (a : List ℕ) → Bytes a → Bytes (drop n a)
-bytes-drop zero a p = p
-bytes-drop (suc n) [] p = p
-bytes-drop (suc n) (b ∷ a) p = bytes-drop n a (p .1)
 
 -- A beginning padded up to the last data byte is completed by the checksum and 16.
 padded : (x pad : List ℕ) → Bytes pad → Headed (x ++ pad) → length (x ++ pad) ≡ 10 + lengthOf (x ++ pad) → Completion x
@@ -94,7 +81,7 @@ padded x pad b h e =
     record {
       more = pad ++ (checksumOf (x ++ pad) ∷ 0x16 ∷ []);
       some = simp length-append (omega arith);
-      bytes = bytes-append pad _ b (mod-lt _ (omega arith), (omega arith, tt));
+      bytes = all-append IsByte pad _ b (mod-lt _ (omega arith), (omega arith, tt));
       whole = rw append-assoc at (headed-closes (x ++ pad) h e);
     }
 
@@ -104,7 +91,7 @@ field-completes x h l =
     let missing : ℕ = 10 + lengthOf x - length x in
     let pad : List ℕ = replicate missing 0 in
     let size : length (x ++ pad) ≡ 10 + lengthOf x = simp (length-append, length-replicate) (omega arith) in
-    padded x pad (bytes-zeros missing) (headed-longer x pad (h .ten) h) (rw (same-length x pad (h .ten)) size)
+    padded x pad (all-replicate IsByte missing 0 (omega arith)) (headed-longer x pad (h .ten) h) (rw (same-length x pad (h .ten)) size)
 
 -- Bytes followed by the rest of others have the others' byte at a place if they have it there or end before.
 rest-at : (x t : List ℕ) (i : ℕ) → (i < length x → getD x i 0 ≡ getD t i 0) → getD (x ++ drop (length x) t) i 0 ≡ getD t i 0
@@ -125,7 +112,7 @@ head-completes x l first eighth =
     let pad : List ℕ = drop (length x) head in
     let none : lengthOf (x ++ pad) ≡ 0 = rest-at x head 9 (λ h. absurd (omega arith)) in
     let ten : length (x ++ pad) ≡ 10 = simp (length-append, length-drop) (omega arith) in
-    padded x pad (bytes-drop (length x) head (omega arith))
+    padded x pad (all-drop IsByte (length x) head (omega arith))
     (record { ten = omega arith; first = rest-at x head 0 first; eighth = rest-at x head 7 eighth; most = omega arith })
     (omega arith)
 
@@ -217,9 +204,9 @@ unfolding exactlyOne isAll
 frame-one x w = rw (frame-alone w) (eq-eqb (length x) _ refl)
 
 -- A written frame is recognised, whatever follows.
-pub written-whole : (address : List ℕ) (control : ℕ) (meant more : List ℕ) → length address ≡ 6 → length meant ≤ 200 →
-    recognised (frameFor address control meant ++ more) ≡ Whole (12 + length meant)
+pub written-whole : (address : List ℕ) (control : ℕ) (payload more : List ℕ) → length address ≡ 6 → length payload ≤ 200 →
+    recognised (frameFor address control payload ++ more) ≡ Whole (12 + length payload)
 unfolding frameFor
-written-whole address control meant more h k =
-    frame-whole (frameFor address control meant) more (frame-for address control meant h k)
-    ∙ ap Whole (frame-length address control (map masked meant) h ∙ ap (λ (n : ℕ). 12 + n) (length-map meant masked))
+written-whole address control payload more h k =
+    frame-whole (frameFor address control payload) more (frame-for address control payload h k)
+    ∙ ap Whole (frame-length address control (map masked payload) h ∙ ap (λ (n : ℕ). 12 + n) (length-map payload masked))

@@ -1,10 +1,14 @@
 // Frames of DL/T 645-2007, as document 01, "A frame", has them: the checksum, and the recognition of bytes as a frame. Nothing here
 // looks at what a control code or an address means.
+pub mod delivery;
 pub mod refusal;
 
 ghost use mathlib.Core.Path.{_≡_};
 ghost use Rattle.frame.specs.Frame.{checksumOf};
 ghost use Rattle.frame.specs.Recognition.{recognised, recognisedBody, exactlyOne};
+
+// How many bytes the longest frame has.
+pub const MOST_FRAME: usize = 212;
 
 // What a slice of bytes begins with.
 pub enum Recognised {

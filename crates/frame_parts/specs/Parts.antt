@@ -1,10 +1,11 @@
--- A frame taken apart into arrays: its address field, and its data as they are meant.
+-- A frame taken apart into arrays: its address field, and its data unmasked.
 use Prim.Native.Nat.{ℕ, _+_}
 use mathlib.Core.List.{List}
 use mathlib.Core.Bool.{Bool, _&&_}
 use lib.ListN.{length, replicate}
 use lib.Dec.{leb}
-use Rattle.laws.specs.Memory.{over, pick}
+use Rattle.laws.specs.Memory.{over}
+use Rattle.laws.specs.Test.{pick}
 use Rattle.frame.specs.Frame.{addressOf, lengthOf, dataOf}
 
 -- The address field; zeros where the bytes are too few to have one.

@@ -3,16 +3,17 @@ use Prim.Native.Nat.{ℕ, _+_}
 use mathlib.Core.List.{List}
 use lib.ListN.{length}
 use lib.Dec.{leb}
-use Rattle.laws.specs.Memory.{Outcome, outcome, over, pick}
+use Rattle.laws.specs.Memory.{Outcome, outcome, over}
+use Rattle.laws.specs.Test.{pick}
 use Rattle.frame.specs.Frame.{frameFor}
 use Rattle.frame_parts.specs.declared.Written.{Written}
 use Rattle.frame_parts.specs.declared.Written.the-variants.{Length, TooMuchData, TooLittleMemory}
 
 -- More than 200 data bytes, or too little memory: nothing is written. Else the frame, over the front of the memory.
 unfoldable pub writing : List ℕ → ℕ → List ℕ → List ℕ → Outcome Written
-writing address control meant m =
-    pick (leb (length meant) 200)
-    (pick (leb (12 + length meant) (length m))
-    (outcome (Length (12 + length meant)) (over (frameFor address control meant) m))
+writing address control payload m =
+    pick (leb (length payload) 200)
+    (pick (leb (12 + length payload) (length m))
+    (outcome (Length (12 + length payload)) (over (frameFor address control payload) m))
     (outcome TooLittleMemory m))
     (outcome TooMuchData m)

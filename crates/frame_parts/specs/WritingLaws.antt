@@ -10,15 +10,15 @@ use Rattle.laws.specs.Memory.{over}
 use Rattle.laws.specs.MemoryLaws.{over-over}
 
 -- The bytes before the data field, and the field behind them, are what the checksum is taken over.
-pub summed-parts : (address : List ℕ) (control : ℕ) (meant : List ℕ)
-    → (0x68 ∷ (address ++ (0x68 ∷ control ∷ length meant ∷ []))) ++ map masked meant ≡ summed address control (map masked meant)
+pub summed-parts : (address : List ℕ) (control : ℕ) (payload : List ℕ)
+    → (0x68 ∷ (address ++ (0x68 ∷ control ∷ length payload ∷ []))) ++ map masked payload ≡ summed address control (map masked payload)
 unfolding summed
-summed-parts address control meant = rw (append-assoc, length-map)
+summed-parts address control payload = rw (append-assoc, length-map)
 
--- What stands at the front is sealed: its checksum and 16 go behind it.
-pub sealed : (n : ℕ) (s m : List ℕ) → length s ≡ n → let o = over s m in
+-- With the end written, what stands at the front has its checksum and 16 behind it.
+pub end-written : (n : ℕ) (s m : List ℕ) → length s ≡ n → let o = over s m in
     over (take n o ++ (checksumOf (take n o) ∷ 0x16 ∷ [])) o ≡ over (s ++ (checksumOf s ∷ 0x16 ∷ [])) m
-sealed n s m e =
+end-written n s m e =
     let front : take n (over s m) ≡ s = take-at s (drop (length s) m) n e in
     let more : length s ≤ length (s ++ (checksumOf s ∷ 0x16 ∷ [])) = rw length-append (omega arith) in
     ap (λ (l : List ℕ). over (l ++ (checksumOf l ∷ 0x16 ∷ [])) (over s m)) front ∙ over-over (s ++ (checksumOf s ∷ 0x16 ∷ [])) s m more

@@ -26,7 +26,7 @@ fn mask(b: u8) -> u8
     std::num::wrapping_add_u8(b, 0x33)
 }
 
-// A data byte as it is meant: with 33H taken off, wrapping at 256.
+// A data byte unmasked: with 33H taken off, wrapping at 256.
 pub fn unmask(b: u8) -> u8
     ensures { λ r. ⌜ r ≡ unmasked b ⌝ }
 {
@@ -47,23 +47,23 @@ pub fn address_of(bytes: &[u8]) -> [u8; 6]
 pub fn data_of(bytes: &[u8]) -> [u8; 200]
     ensures { λ r. ⌜ r ≡ dataField (now (bytes .entry)) ⌝ }
 {
-    let mut meant = [0u8; 200];
+    let mut payload = [0u8; 200];
     if bytes.len() < 10 {
-        return meant;
+        return payload;
     }
     let length = bytes[9] as usize;
     if 200 < length {
-        return meant;
+        return payload;
     }
     if bytes.len() < 10 + length {
-        return meant;
+        return payload;
     }
     let mut i = 0;
     while i < length {
-        meant[i] = unmask(bytes[10 + i]);
+        payload[i] = unmask(bytes[10 + i]);
         i += 1;
     }
-    meant
+    payload
 }
 
 // The bytes of a frame before its data field: 68, the address field, 68, the control code, the data length.
@@ -83,19 +83,19 @@ fn write_head(address: [u8; 6], control: u8, data_length: u8, out: &mut [u8])
 }
 
 // The data, masked, at the front of the output buffer.
-fn write_field(meant: &[u8], out: &mut [u8])
-    requires { ⌜ length (now meant) ≤ length (now out) ⌝ }
-    ensures { λ _. ⌜ now (out .exit) ≡ over (map masked (now (meant .entry))) (now (out .entry)) ⌝ }
+fn write_field(payload: &[u8], out: &mut [u8])
+    requires { ⌜ length (now payload) ≤ length (now out) ⌝ }
+    ensures { λ _. ⌜ now (out .exit) ≡ over (map masked (now (payload .entry))) (now (out .entry)) ⌝ }
 {
     let mut i = 0;
-    while i < meant.len() {
-        out[i] = mask(meant[i]);
+    while i < payload.len() {
+        out[i] = mask(payload[i]);
         i += 1;
     }
 }
 
 // The checksum of the first `n` bytes, and 16, after them.
-fn seal(n: usize, out: &mut [u8])
+fn write_end(n: usize, out: &mut [u8])
     requires { ⌜ n + 2 ≤ length (now out) ⌝ }
     ensures { λ _. ⌜ now (out .exit) ≡ over (take n (now (out .entry)) ++ (checksumOf (take n (now (out .entry))) ∷ 0x16 ∷ [])) (now (out .entry)) ⌝ }
 {
@@ -104,10 +104,10 @@ fn seal(n: usize, out: &mut [u8])
 }
 
 // Writes the frame of an address, a control code and data, masked here, to the front of the output buffer.
-pub fn write_frame(address: [u8; 6], control: u8, meant: &[u8], out: &mut [u8]) -> Written
-    ensures { λ r. ⌜ outcome r (now (out .exit)) ≡ writing address control (now (meant .entry)) (now (out .entry)) ⌝ }
+pub fn write_frame(address: [u8; 6], control: u8, payload: &[u8], out: &mut [u8]) -> Written
+    ensures { λ r. ⌜ outcome r (now (out .exit)) ≡ writing address control (now (payload .entry)) (now (out .entry)) ⌝ }
 {
-    let n = meant.len();
+    let n = payload.len();
     if 200 < n {
         return Written::TooMuchData;
     }
@@ -115,7 +115,7 @@ pub fn write_frame(address: [u8; 6], control: u8, meant: &[u8], out: &mut [u8]) 
         return Written::TooLittleMemory;
     }
     write_head(address, control, n as u8, out);
-    write_field(meant, &mut out[10..]);
-    seal(10 + n, out);
+    write_field(payload, &mut out[10..]);
+    write_end(10 + n, out);
     Written::Length(12 + n)
 }

@@ -3,12 +3,14 @@ use Prim.Native.Nat.{ℕ}
 use mathlib.Core.List.{List}
 use mathlib.Core.Bool.{Bool, true, false, _&&_, _||_}
 use lib.ListN.{getD}
-use lib.Dec.{leb, eqb}
+use lib.Dec.{eqb}
+use Rattle.item_range.specs.Range.{within}
 use Rattle.item_decimal.specs.Decimal.{firstBad, digits}
 use Rattle.item_decimal.specs.declared.Scan.{Scan}
 use Rattle.item_decimal.specs.declared.Scan.the-variants.{AllDecimal, BadAt}
 use Rattle.item.specs.declared.table.Kind.{Kind}
-use Rattle.item.specs.declared.table.Kind.the-variants.{Energy, Date, Time, DemandPeriod, Slip, Address, MeterNumber, FirstSettlementDay, SecondSettlementDay, ThirdSettlementDay}
+use Rattle.item.specs.declared.table.Kind.the-variants.{Energy, Date, Time, DemandPeriod, Slip, Address, MeterNumber, SettlementDay}
+use Rattle.item.specs.declared.content.Bounds.{Bounds}
 use Rattle.item.specs.declared.content.Content.{Content}
 use Rattle.item.specs.declared.content.Content.the-variants.{Allowed, NotDecimal, OutOfRange}
 
@@ -16,17 +18,23 @@ use Rattle.item.specs.declared.content.Content.the-variants.{Allowed, No
 unfoldable pub digitsAt : List ℕ → ℕ → ℕ
 digitsAt value i = digits (getD value i 0)
 
--- From the least to the most.
-unfoldable pub within : ℕ → ℕ → ℕ → Bool
-within least most n = leb least n && leb n most
+-- A least and a most.
+abbrev bounds : ℕ → ℕ → Bounds
+bounds least most = record { least = least; most = most }
+
+-- The first three pairs of digits are each within their bounds.
+unfoldable pub threeWithin : List ℕ → Bounds → Bounds → Bounds → Bool
+threeWithin value first second third =
+    within (first .least) (first .most) (digitsAt value 0)
+    && (within (second .least) (second .most) (digitsAt value 1) && within (third .least) (third .most) (digitsAt value 2))
 
 -- WW DD MM YY: WW 00..06, DD 01..31, MM 01..12.
 unfoldable pub dateInRange : List ℕ → Bool
-dateInRange value = within 0 6 (digitsAt value 0) && (within 1 31 (digitsAt value 1) && within 1 12 (digitsAt value 2))
+dateInRange value = threeWithin value (bounds 0 6) (bounds 1 31) (bounds 1 12)
 
 -- ss mm hh: ss and mm 00..59, hh 00..23.
 unfoldable pub timeInRange : List ℕ → Bool
-timeInRange value = within 0 59 (digitsAt value 0) && (within 0 59 (digitsAt value 1) && within 0 23 (digitsAt value 2))
+timeInRange value = threeWithin value (bounds 0 59) (bounds 0 59) (bounds 0 23)
 
 -- Minutes: 01..60.
 unfoldable pub minutesInRange : List ℕ → Bool
@@ -49,9 +57,7 @@ inRange DemandPeriod value = minutesInRange value
 inRange Slip value = minutesInRange value
 inRange Address value = true
 inRange MeterNumber value = true
-inRange FirstSettlementDay value = settlementDayInRange value
-inRange SecondSettlementDay value = settlementDayInRange value
-inRange ThirdSettlementDay value = settlementDayInRange value
+inRange (SettlementDay n) value = settlementDayInRange value
 
 -- A half byte above 9 is found before any range is looked at.
 abbrev pub afterScan : Scan → Bool → Content

@@ -3,17 +3,18 @@ use Prim.Native.Nat.{ℕ, _≤_}
 use mathlib.Core.Path.{_≡_, refl, ap}
 use mathlib.Core.List.{List}
 use mathlib.Core.Bool.{Bool, true, false, _&&_, _||_, false≢true, or-true, and-eq-true-iff}
-use mathlib.Core.Logic.{_↔_, Iff·rfl}
+use mathlib.Core.Logic.{_↔_}
 use native.Mathlib.Omega.{arith}
-use lib.Dec.{leb}
-use borrow.Author.Tests.{leb-true, le-leb, eqb-true, eq-eqb}
+use borrow.Author.Tests.{eqb-true, eq-eqb}
+use Rattle.item_range.specs.Range.{within}
+use Rattle.item_range.specs.RangeLaws.{within-iff}
 use Rattle.item_decimal.specs.Decimal.{Decimal, firstBad}
 use Rattle.item_decimal.specs.DecimalLaws.{scan-decimal, decimal-scan}
-use Rattle.item.specs.Content.{digitsAt, within, dateInRange, timeInRange, minutesInRange, notSet, settlementDayInRange, inRange, afterScan, contentOf, isAllowed}
+use Rattle.item.specs.Content.{digitsAt, threeWithin, dateInRange, timeInRange, minutesInRange, notSet, settlementDayInRange, inRange, afterScan, contentOf, isAllowed}
 use Rattle.item_decimal.specs.declared.Scan.{Scan}
 use Rattle.item_decimal.specs.declared.Scan.the-variants.{AllDecimal, BadAt}
 use Rattle.item.specs.declared.table.Kind.{Kind}
-use Rattle.item.specs.declared.table.Kind.the-variants.{Energy, Date, Time, DemandPeriod, Slip, Address, MeterNumber, FirstSettlementDay, SecondSettlementDay, ThirdSettlementDay}
+use Rattle.item.specs.declared.table.Kind.the-variants.{Energy, Date, Time, DemandPeriod, Slip, Address, MeterNumber, SettlementDay}
 use Rattle.item.specs.declared.content.Content.the-variants.{Allowed}
 
 -- WW 00..06, DD 01..31, MM 01..12.
@@ -49,26 +50,16 @@ Range DemandPeriod value = MinutesRange value
 Range Slip value = MinutesRange value
 Range Address value = Unit
 Range MeterNumber value = Unit
-Range FirstSettlementDay value = SettlementDayRange value
-Range SecondSettlementDay value = SettlementDayRange value
-Range ThirdSettlementDay value = SettlementDayRange value
-
--- Tests of numbers, as what they say.
-leb-iff : (a b : ℕ) → leb a b ≡ true ↔ a ≤ b
-leb-iff a b = (leb-true a b, le-leb a b)
-
-within-iff : (least most n : ℕ) → within least most n ≡ true ↔ ((least ≤ n) × (n ≤ most))
-unfolding within
-within-iff least most n = simp (and-eq-true-iff, leb-iff) Iff·rfl
+Range (SettlementDay n) value = SettlementDayRange value
 
 -- Tests of values: each holds exactly where the value is in its range.
 module _ (value : List ℕ) where
   date-range : dateInRange value ≡ true ↔ DateRange value
-  unfolding dateInRange
+  unfolding dateInRange threeWithin
   date-range = simp (and-eq-true-iff, within-iff) (omega arith)
 
   time-range : timeInRange value ≡ true ↔ TimeRange value
-  unfolding timeInRange
+  unfolding timeInRange threeWithin
   time-range = simp (and-eq-true-iff, within-iff) (omega arith)
 
   minutes-range : minutesInRange value ≡ true ↔ MinutesRange value
@@ -101,9 +92,7 @@ module _ (value : List ℕ) where
   in-range Slip = minutes-range
   in-range Address = (λ h. tt, λ u. refl)
   in-range MeterNumber = (λ h. tt, λ u. refl)
-  in-range FirstSettlementDay = settlement-day-range
-  in-range SecondSettlementDay = settlement-day-range
-  in-range ThirdSettlementDay = settlement-day-range
+  in-range (SettlementDay n) = settlement-day-range
 
 -- Allowed is what the scan finds nothing in and the ranges hold of.
 pub after-scan : (scan : Scan) (ranges : Bool) → afterScan scan ranges ≡ Allowed → (scan ≡ AllDecimal) × (ranges ≡ true)

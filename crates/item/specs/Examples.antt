@@ -3,8 +3,9 @@ use mathlib.Core.Path.{_≡_, refl}
 use mathlib.Core.List.{[], _∷_}
 use Rattle.item_decimal.specs.Decimal.{isDecimal, firstBadFrom, firstBad, digits}
 use Rattle.item.specs.Table.{itemOf, energyItem, readings, readOnly, writableItem, otherRows, found}
-use Rattle.item.specs.Content.{digitsAt, within, dateInRange, minutesInRange, notSet, settlementDayInRange, inRange, contentOf}
-use Rattle.item.specs.declared.table.Kind.the-variants.{Energy, Date, DemandPeriod, Address, FirstSettlementDay}
+use Rattle.item_range.specs.Range.{within}
+use Rattle.item.specs.Content.{digitsAt, threeWithin, dateInRange, minutesInRange, notSet, settlementDayInRange, inRange, contentOf}
+use Rattle.item.specs.declared.table.Kind.the-variants.{Energy, Date, DemandPeriod, Address, SettlementDay}
 use Rattle.item.specs.declared.table.Lookup.the-variants.{Listed, NotListed}
 use Rattle.item.specs.declared.content.Content.the-variants.{Allowed, NotDecimal, OutOfRange}
 
@@ -30,7 +31,7 @@ address-read : itemOf 0x04000401 ≡ Listed (readOnly Address 6)
 unfolding itemOf found otherRows
 address-read = refl
 
-settlement-written : itemOf 0x04000B01 ≡ Listed (writableItem FirstSettlementDay 2)
+settlement-written : itemOf 0x04000B01 ≡ Listed (writableItem (SettlementDay 1) 2)
 unfolding itemOf found otherRows
 settlement-written = refl
 
@@ -53,14 +54,14 @@ sixty-binary = refl
 
 -- A half byte above 9 in the last byte is found though the first byte's range is broken too.
 decimal-first : contentOf Date (0x07 ∷ 0x01 ∷ 0x01 ∷ 0x0A ∷ []) ≡ NotDecimal 3
-unfolding contentOf firstBad firstBadFrom isDecimal inRange dateInRange digitsAt digits within
+unfolding contentOf firstBad firstBadFrom isDecimal inRange dateInRange threeWithin digitsAt digits within
 decimal-first = refl
 
 -- 9999 is not set; 99 with 00 is neither.
-not-set : contentOf FirstSettlementDay (0x99 ∷ 0x99 ∷ []) ≡ Allowed
+not-set : contentOf (SettlementDay 1) (0x99 ∷ 0x99 ∷ []) ≡ Allowed
 unfolding contentOf firstBad firstBadFrom isDecimal inRange settlementDayInRange notSet digitsAt digits within
 not-set = refl
 
-half-set : contentOf FirstSettlementDay (0x00 ∷ 0x99 ∷ []) ≡ OutOfRange
+half-set : contentOf (SettlementDay 1) (0x00 ∷ 0x99 ∷ []) ≡ OutOfRange
 unfolding contentOf firstBad firstBadFrom isDecimal inRange settlementDayInRange notSet digitsAt digits within
 half-set = refl

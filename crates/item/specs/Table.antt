@@ -4,9 +4,9 @@ use Prim.Native.Nat.{ℕ, _*_, _/_, _%_}
 use mathlib.Core.List.{List, [], _∷_}
 use mathlib.Core.Bool.{Bool, true, false}
 use lib.Dec.{leb, eqb}
-use Rattle.laws.specs.Memory.{pick}
+use Rattle.laws.specs.Test.{pick}
 use Rattle.item.specs.declared.table.Kind.{Kind}
-use Rattle.item.specs.declared.table.Kind.the-variants.{Energy, Date, Time, DemandPeriod, Slip, Address, MeterNumber, FirstSettlementDay, SecondSettlementDay, ThirdSettlementDay}
+use Rattle.item.specs.declared.table.Kind.the-variants.{Energy, Date, Time, DemandPeriod, Slip, Address, MeterNumber, SettlementDay}
 use Rattle.item.specs.declared.table.Item.{Item}
 use Rattle.item.specs.declared.table.Lookup.{Lookup}
 use Rattle.item.specs.declared.table.Lookup.the-variants.{Listed, NotListed}
@@ -54,9 +54,9 @@ otherRows =
     ∷ row 0x04000104 (writableItem Slip 1)
     ∷ row 0x04000401 (readOnly Address 6)
     ∷ row 0x04000402 (writableItem MeterNumber 6)
-    ∷ row 0x04000B01 (writableItem FirstSettlementDay 2)
-    ∷ row 0x04000B02 (writableItem SecondSettlementDay 2)
-    ∷ row 0x04000B03 (writableItem ThirdSettlementDay 2)
+    ∷ row 0x04000B01 (writableItem (SettlementDay 1) 2)
+    ∷ row 0x04000B02 (writableItem (SettlementDay 2) 2)
+    ∷ row 0x04000B03 (writableItem (SettlementDay 3) 2)
     ∷ []
 
 -- The first row of this identifier.

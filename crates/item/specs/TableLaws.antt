@@ -6,11 +6,11 @@ use mathlib.Core.Bool.{Bool, true, false}
 use native.Mathlib.Omega.{arith}
 use lib.Dec.{leb, eqb}
 use borrow.Author.Tests.{leb-true, eqb-true}
-use Rattle.laws.specs.Memory.{pick}
-use Rattle.laws.specs.MemoryLaws.{pick-cases}
+use Rattle.laws.specs.Test.{pick}
+use Rattle.laws.specs.TestLaws.{pick-cases}
 use Rattle.item.specs.Table.{itemOf, energyItem, readings, readOnly, Row, otherRows, found}
 use Rattle.item.specs.declared.table.Kind.{Kind}
-use Rattle.item.specs.declared.table.Kind.the-variants.{Energy, Date, Time, DemandPeriod, Slip, Address, MeterNumber, FirstSettlementDay, SecondSettlementDay, ThirdSettlementDay}
+use Rattle.item.specs.declared.table.Kind.the-variants.{Energy, Date, Time, DemandPeriod, Slip, Address, MeterNumber, SettlementDay}
 use Rattle.item.specs.declared.table.Item.{Item}
 use Rattle.item.specs.declared.table.Lookup.{Lookup}
 use Rattle.item.specs.declared.table.Lookup.the-variants.{Listed, NotListed}
@@ -28,7 +28,7 @@ InRows P (r ∷ rows) = P (r .identifier) (r .item) × InRows P rows
 
 -- A rule about identifiers and their items, shown of all readings and of each row of the rest of the table.
 pub record Rule (P : ℕ → Item → Type 0) : Type 0 where
-  pub of-readings : (identifier direction rate rates row rows : ℕ) → Within direction rate rates row rows → 4 * rates * rows ≤ 52
+  pub of-readings : (identifier direction rate rates row rows : ℕ) → Within direction rate rates row rows → 4 + 4 * rates * rows ≤ 200
       → P identifier (readOnly (Energy direction rate rates row rows) (4 * rates * rows))
   pub of-rows : InRows P otherRows
 
@@ -50,7 +50,7 @@ module _ {P : ℕ → Item → Type 0} (rule : Rule P) (identifier : ℕ) where
       (λ q. pick-cases Holds (leb s 12) (λ r. reading 0 5 s 1 (omega (arith, leb-true s 12 r)) (omega arith)) (λ r. tt))
       (λ q. tt))
     where
-      reading : (rate rates row rows : ℕ) → Within direction rate rates row rows → 4 * rates * rows ≤ 52
+      reading : (rate rates row rows : ℕ) → Within direction rate rates row rows → 4 + 4 * rates * rows ≤ 200
           → Holds (readings direction rate rates row rows)
       reading = rule .of-readings identifier direction
 
@@ -73,11 +73,11 @@ module _ {P : ℕ → Item → Type 0} (rule : Rule P) (identifier : ℕ) where
   pub listed-rule : (item : Item) → itemOf identifier ≡ Listed item → P identifier item
   listed-rule item h = rw h at item-rule
 
--- No listed item has more than 52 bytes.
-pub listed-most : (identifier : ℕ) (item : Item) → itemOf identifier ≡ Listed item → item .length ≤ 52
+-- The identifier and the value of a listed item fit one reply.
+pub listed-fits : (identifier : ℕ) (item : Item) → itemOf identifier ≡ Listed item → 4 + item .length ≤ 200
 unfolding otherRows
-listed-most =
-    listed-rule {P = λ identifier item. item .length ≤ 52}
+listed-fits =
+    listed-rule {P = λ identifier item. 4 + item .length ≤ 200}
     (record { of-readings = λ identifier direction rate rates row rows w b. b; of-rows = omega arith })
 
 -- The identifiers under which each kind is written.
@@ -89,9 +89,7 @@ writtenAt DemandPeriod = 0x04000103 ∷ []
 writtenAt Slip = 0x04000104 ∷ []
 writtenAt Address = []
 writtenAt MeterNumber = 0x04000402 ∷ []
-writtenAt FirstSettlementDay = 0x04000B01 ∷ []
-writtenAt SecondSettlementDay = 0x04000B02 ∷ []
-writtenAt ThirdSettlementDay = 0x04000B03 ∷ []
+writtenAt (SettlementDay n) = (0x04000B00 + n) ∷ []
 
 listed-written : (identifier : ℕ) (item : Item) → itemOf identifier ≡ Listed item → pick (item .writable) (identifier ∷ []) [] ≡ writtenAt (item .kind)
 unfolding otherRows

@@ -3,8 +3,9 @@ use crate::table::Kind;
 use item_decimal::Scan;
 use item_decimal::digits_of;
 use item_decimal::first_bad;
+use item_range::is_within;
 ghost use mathlib.Core.Path.{_≡_};
-ghost use Rattle.item.specs.Content.{digitsAt, within, dateInRange, timeInRange, minutesInRange, settlementDayInRange, inRange, contentOf};
+ghost use Rattle.item.specs.Content.{digitsAt, threeWithin, dateInRange, timeInRange, minutesInRange, settlementDayInRange, inRange, contentOf};
 
 // The check of a written value's content.
 pub enum Content {
@@ -14,50 +15,53 @@ pub enum Content {
     OutOfRange,
 }
 
+// The least and the most of a pair of digits.
+pub(crate) struct Bounds {
+    pub least: usize,
+    pub most: usize,
+}
+
 // The number of the two digits at a place of the value; 0 beyond its end.
-fn digits_at(value: &[u8], i: usize) -> u8
+fn digits_at(value: &[u8], i: usize) -> usize
     ensures { λ r. ⌜ r ≡ digitsAt (now (value .entry)) i ⌝ }
 {
     if i < value.len() {
-        return digits_of(value[i]);
+        return digits_of(value[i]) as usize;
     }
     0
 }
 
-// Whether a number is in a range.
-fn is_within(least: u8, most: u8, n: u8) -> bool
-    ensures { λ r. ⌜ r ≡ within least most n ⌝ }
+// Whether the first three pairs of digits of a value are each within their bounds.
+fn three_within(value: &[u8], first: Bounds, second: Bounds, third: Bounds) -> bool
+    ensures { λ r. ⌜ r ≡ threeWithin (now (value .entry)) first second third ⌝ }
 {
-    if least <= n {
-        return n <= most;
-    }
-    false
+    is_within(first.least, first.most, digits_at(value, 0))
+        & (is_within(second.least, second.most, digits_at(value, 1))
+            & is_within(third.least, third.most, digits_at(value, 2)))
 }
 
 // WW DD MM YY.
 fn date_in_range(value: &[u8]) -> bool
     ensures { λ r. ⌜ r ≡ dateInRange (now (value .entry)) ⌝ }
 {
-    if !is_within(0, 6, digits_at(value, 0)) {
-        return false;
-    }
-    if !is_within(1, 31, digits_at(value, 1)) {
-        return false;
-    }
-    is_within(1, 12, digits_at(value, 2))
+    three_within(
+        value,
+        Bounds { least: 0, most: 6 },
+        Bounds { least: 1, most: 31 },
+        Bounds { least: 1, most: 12 },
+    )
 }
 
 // ss mm hh.
 fn time_in_range(value: &[u8]) -> bool
     ensures { λ r. ⌜ r ≡ timeInRange (now (value .entry)) ⌝ }
 {
-    if !is_within(0, 59, digits_at(value, 0)) {
-        return false;
-    }
-    if !is_within(0, 59, digits_at(value, 1)) {
-        return false;
-    }
-    is_within(0, 23, digits_at(value, 2))
+    three_within(
+        value,
+        Bounds { least: 0, most: 59 },
+        Bounds { least: 0, most: 59 },
+        Bounds { least: 0, most: 23 },
+    )
 }
 
 // Minutes.
@@ -73,15 +77,7 @@ fn settlement_day_in_range(value: &[u8]) -> bool
 {
     let hour = digits_at(value, 0);
     let day = digits_at(value, 1);
-    if hour == 99 {
-        if day == 99 {
-            return true;
-        }
-    }
-    if !is_within(0, 23, hour) {
-        return false;
-    }
-    is_within(1, 28, day)
+    ((hour == 99) & (day == 99)) | (is_within(0, 23, hour) & is_within(1, 28, day))
 }
 
 // The range of each kind of item.
@@ -96,9 +92,7 @@ fn in_range(kind: Kind, value: &[u8]) -> bool
         Kind::Slip => minutes_in_range(value),
         Kind::Address => true,
         Kind::MeterNumber => true,
-        Kind::FirstSettlementDay => settlement_day_in_range(value),
-        Kind::SecondSettlementDay => settlement_day_in_range(value),
-        Kind::ThirdSettlementDay => settlement_day_in_range(value),
+        Kind::SettlementDay(_) => settlement_day_in_range(value),
     }
 }
 

@@ -24,10 +24,8 @@ pub enum Kind {
     // The communication address.
     Address,
     MeterNumber,
-    // DDhh.
-    FirstSettlementDay,
-    SecondSettlementDay,
-    ThirdSettlementDay,
+    // DDhh, of the first, second or third settlement day: 1, 2 or 3.
+    SettlementDay(u8),
 }
 
 // A row of the table: what is named, its length in bytes, and whether it may be written by 14H.
@@ -87,9 +85,9 @@ pub fn item_of(identifier: u32) -> Lookup
             writable: false,
         }),
         0x04000402 => register(Kind::MeterNumber, 6),
-        0x04000B01 => register(Kind::FirstSettlementDay, 2),
-        0x04000B02 => register(Kind::SecondSettlementDay, 2),
-        0x04000B03 => register(Kind::ThirdSettlementDay, 2),
+        0x04000B01 => register(Kind::SettlementDay(1), 2),
+        0x04000B02 => register(Kind::SettlementDay(2), 2),
+        0x04000B03 => register(Kind::SettlementDay(3), 2),
         _ => Lookup::NotListed,
     }
 }

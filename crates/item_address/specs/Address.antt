@@ -5,8 +5,9 @@ use mathlib.Core.Path.{_≡_}
 use mathlib.Core.List.{List, [], _∷_}
 use mathlib.Core.Bool.{Bool, _&&_, not}
 use lib.ListN.{take, drop, replicate}
-use lib.Dec.{leb, eqb}
-use Rattle.laws.specs.Memory.{pick}
+use lib.Dec.{eqb}
+use Rattle.laws.specs.Test.{pick}
+use Rattle.item_range.specs.Range.{within}
 use Rattle.item_decimal.specs.Decimal.{Decimal, allDecimal}
 use Rattle.item_same.specs.Same.{same}
 
@@ -31,11 +32,8 @@ lowBytes [] = 0
 lowBytes (b ∷ bs) = pick (eqb (lowBytes bs) 0) (pick (eqb b 0xAA) 0 1) (lowBytes bs + 1)
 
 -- One to five low bytes, and wildcard bytes above them.
-unfoldable pub isShortCount : ℕ → Bool
-isShortCount k = leb 1 k && leb k 5
-
 unfoldable pub hasShortForm : List ℕ → Bool
-hasShortForm address = isShortCount (lowBytes address)
+hasShortForm address = within 1 5 (lowBytes address)
 
 -- A short address as the reader's end sends it: with decimal low bytes.
 unfoldable pub isShort : List ℕ → Bool

@@ -9,13 +9,14 @@ use native.Mathlib.Omega.{arith}
 use lib.ListN.{length, take, drop, replicate, take-append-drop}
 use lib.Seq.{length-take-le}
 use lib.Dec.{eqb}
-use borrow.Author.Tests.{not-true, leb-true, le-leb, eqb-true, ne-eqb}
-use Rattle.laws.specs.Memory.{pick}
+use borrow.Author.Tests.{not-true, eqb-true, ne-eqb}
+use Rattle.laws.specs.Test.{pick}
 use Rattle.item_decimal.specs.Decimal.{Decimal, allDecimal}
 use Rattle.item_decimal.specs.DecimalLaws.{all-decimal, decimal-all, decimal-take}
 use Rattle.item_same.specs.Same.{same}
 use Rattle.item_same.specs.SameLaws.{same-equal, equal-same}
-use Rattle.item_address.specs.Address.{broadcast, Good, isGood, lowBytes, isShortCount, hasShortForm, isShort, ShortAddress, shortMatches, ShortFor}
+use Rattle.item_range.specs.RangeLaws.{within-iff}
+use Rattle.item_address.specs.Address.{broadcast, Good, isGood, lowBytes, hasShortForm, isShort, ShortAddress, shortMatches, ShortFor}
 
 pub good : (address : List ℕ) → isGood address ≡ true → Good address
 unfolding isGood
@@ -65,42 +66,42 @@ low-count (x ∷ y ∷ xs) n h =
     rw (low-count (y ∷ xs) n (h .2), some, add-one)
 
 pub short-address : (address : List ℕ) → length address ≡ 6 → isShort address ≡ true → ShortAddress address
-unfolding isShort hasShortForm isShortCount
+unfolding isShort hasShortForm
 short-address address six h =
-    let parts = simp and-eq-true-iff at h in
+    let parts = simp (and-eq-true-iff, within-iff) at h in
     record {
       k = lowBytes address;
-      some = leb-true _ _ (parts .0 .0);
-      most = leb-true _ _ (parts .0 .1);
+      some = parts .0 .0;
+      most = parts .0 .1;
       lowest = all-decimal _ (parts .1);
       higher = rw (← six) (behind-low address);
     }
 
 pub is-short : (address : List ℕ) → length address ≡ 6 → ShortAddress address → isShort address ≡ true
-unfolding isShort hasShortForm isShortCount
+unfolding isShort hasShortForm
 is-short address six h =
     let long : length (take (h .k) address) ≡ h .k = length-take-le (h .k) address (omega arith) in
     let whole : address ≡ take (h .k) address ++ replicate (6 - h .k) 0xAA = cc (take-append-drop (h .k) address, h .higher) in
     let low : lowBytes address ≡ h .k = ap lowBytes whole ∙ low-count (take (h .k) address) (6 - h .k) (h .lowest) ∙ long in
-    rw (low, le-leb 1 (h .k) (h .some), le-leb (h .k) 5 (h .most)) (decimal-all (take (h .k) address) (h .lowest))
+    rw (low, within-iff 1 5 (h .k) .1 (h .some, h .most)) (decimal-all (take (h .k) address) (h .lowest))
 
 pub short-for : (address own : List ℕ) → length address ≡ 6 → shortMatches address own ≡ true → ShortFor address own
-unfolding shortMatches hasShortForm isShortCount
+unfolding shortMatches hasShortForm
 short-for address own six h =
-    let parts = simp and-eq-true-iff at h in
+    let parts = simp (and-eq-true-iff, within-iff) at h in
     record {
       k = lowBytes address;
-      some = leb-true _ _ (parts .0 .0);
-      most = leb-true _ _ (parts .0 .1);
+      some = parts .0 .0;
+      most = parts .0 .1;
       lowest = same-equal _ _ (parts .1);
       higher = rw (← six) (behind-low address);
     }
 
 -- A decimal address has no wildcard byte, so that only one number of low bytes fits.
 pub for-short : (address own : List ℕ) → length address ≡ 6 → length own ≡ 6 → Decimal own → ShortFor address own → shortMatches address own ≡ true
-unfolding shortMatches hasShortForm isShortCount
+unfolding shortMatches hasShortForm
 for-short address own six own-six decimal h =
     let long : length (take (h .k) own) ≡ h .k = length-take-le (h .k) own (omega arith) in
     let whole : address ≡ take (h .k) own ++ replicate (6 - h .k) 0xAA = cc (take-append-drop (h .k) address, h .lowest, h .higher) in
     let low : lowBytes address ≡ h .k = ap lowBytes whole ∙ low-count (take (h .k) own) (6 - h .k) (decimal-take (h .k) own decimal) ∙ long in
-    rw (low, le-leb 1 (h .k) (h .some), le-leb (h .k) 5 (h .most)) (equal-same _ _ (h .lowest))
+    rw (low, within-iff 1 5 (h .k) .1 (h .some, h .most)) (equal-same _ _ (h .lowest))

@@ -2,13 +2,13 @@
 use Prim.Native.Nat.{ℕ, suc, _+_, _-_, _≤_, _<_}
 use mathlib.Core.Path.{_≡_, ap, sym, _∙_}
 use mathlib.Core.List.{List, [], _∷_, _++_}
-use mathlib.Core.Bool.{Bool, true, and-eq-true-iff}
+use mathlib.Core.Bool.{Bool}
 use native.Mathlib.Omega.{arith}
-use borrow.Author.Tests.{eq-eqb, ne-eqb, leb-true}
-use lib.Dec.{leb}
+use borrow.Author.Tests.{eq-eqb, ne-eqb}
 use lib.ListN.{length, take, getD}
 use lib.Seq.{take-all, take-suc, length-take-le}
-use Rattle.item_address.specs.Address.{lowBytes, isShortCount, hasShortForm}
+use Rattle.item_range.specs.Range.{within}
+use Rattle.item_address.specs.Address.{lowBytes, hasShortForm}
 
 -- A wildcard byte at the end does not count, and before any other byte all count.
 wildcard-last : (xs : List ℕ) (b : ℕ) → b ≡ 0xAA → lowBytes (xs ++ (b ∷ [])) ≡ lowBytes xs
@@ -54,12 +54,7 @@ module _ {address : List ℕ} {n count : ℕ} where
       let none : count ≡ 0 = omega arith in
       sym (c .so-far ∙ rw none)
 
--- A short address has at most five low bytes.
-pub short-count-most : (k : ℕ) → isShortCount k ≡ true → k ≤ 5
-unfolding isShortCount
-short-count-most k h = leb-true k 5 (and-eq-true-iff (leb 1 k) (leb k 5) .0 h .1)
-
 -- The test of a count that was taken says whether the address has a short form.
-pub short-form : (address : List ℕ) {k : ℕ} {t : Bool} → k ≡ lowBytes address → isShortCount k ≡ t → hasShortForm address ≡ t
+pub short-form : (address : List ℕ) {k : ℕ} {t : Bool} → k ≡ lowBytes address → within 1 5 k ≡ t → hasShortForm address ≡ t
 unfolding hasShortForm
 short-form address e h = rw (← e) h

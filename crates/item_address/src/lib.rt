@@ -1,8 +1,9 @@
 // Communication addresses: six bytes, low byte first.
 use item_decimal::all_decimal;
+use item_range::is_within;
 use item_same::same_bytes;
 ghost use mathlib.Core.Path.{_≡_};
-ghost use Rattle.item_address.specs.Address.{isGood, lowBytes, isShortCount, isShort, shortMatches};
+ghost use Rattle.item_address.specs.Address.{isGood, lowBytes, isShort, shortMatches};
 
 const BROADCAST: [u8; 6] = [0x99, 0x99, 0x99, 0x99, 0x99, 0x99];
 
@@ -33,22 +34,12 @@ fn low_bytes(address: [u8; 6]) -> usize
     0
 }
 
-// Whether so many low bytes, one to five, make an address short.
-fn is_short_count(k: usize) -> bool
-    ensures { λ r. ⌜ r ≡ isShortCount k ⌝ }
-{
-    if 1 <= k {
-        return k <= 5;
-    }
-    false
-}
-
 // Whether an address is short: one to five decimal low bytes, and wildcard bytes above them.
 pub fn is_short(address: [u8; 6]) -> bool
     ensures { λ r. ⌜ r ≡ isShort address ⌝ }
 {
     let k = low_bytes(address);
-    if !is_short_count(k) {
+    if !is_within(1, 5, k) {
         return false;
     }
     all_decimal(&address[..k])
@@ -59,7 +50,7 @@ pub fn short_matches(address: [u8; 6], own: [u8; 6]) -> bool
     ensures { λ r. ⌜ r ≡ shortMatches address own ⌝ }
 {
     let k = low_bytes(address);
-    if !is_short_count(k) {
+    if !is_within(1, 5, k) {
         return false;
     }
     same_bytes(&address[..k], &own[..k])

@@ -1,4 +1,6 @@
 pub mod Command
 pub mod CommandLaws
+pub mod Addressee
+pub mod AddresseeLaws
 pub mod Reply
 pub mod Examples

@@ -1,7 +1,7 @@
 -- Control codes of replies, made of their bits, and the error bytes of the standard's appendix C that document 01 uses.
 use Prim.Native.Nat.{ℕ, _+_, _*_, _%_}
 use mathlib.Core.Bool.{Bool, true, false}
-use Rattle.laws.specs.Memory.{pick}
+use Rattle.laws.specs.Test.{pick}
 
 -- Bit 7 set from the meter, 6 abnormal reply, 5 more to follow, 4 to 0 the function.
 unfoldable pub controlCode : Bool → Bool → Bool → ℕ → ℕ

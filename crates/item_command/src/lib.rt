@@ -6,7 +6,8 @@ use item_address::WILDCARD;
 use item_address::short_matches;
 use item_same::same_bytes;
 ghost use mathlib.Core.Path.{_≡_};
-ghost use Rattle.item_command.specs.Command.{commandOf, controlFor, addressed};
+ghost use Rattle.item_command.specs.Command.{commandOf, controlFor};
+ghost use Rattle.item_command.specs.Addressee.{addresseeOf, namesMeter, addressed};
 
 // The commands of document 01, with their controls.
 pub enum Command {
@@ -20,6 +21,16 @@ pub enum Command {
     WriteAddress,
     // 18
     ChangePassword,
+}
+
+// Whom a command is for.
+pub enum Addressee {
+    // The meter whose address stands in the frame.
+    Own,
+    // Every meter: six wildcard bytes.
+    Wildcards,
+    // The meter whose address stands in the frame, or whose low bytes do where the address is short.
+    OwnOrShort,
 }
 
 // What a control code asks for.
@@ -55,26 +66,39 @@ pub fn control_of(command: Command) -> u8
     }
 }
 
-// Whether a frame's address is equal to the meter's, or a short address that matches it.
-fn matches_read(address: [u8; 6], own: [u8; 6]) -> bool
-    ensures { λ r. ⌜ r ≡ addressed Command.ReadData address own ⌝ }
+// Whom a frame with a command is for, by its address field.
+fn addressee_of(command: Command) -> Addressee
+    ensures { λ r. ⌜ r ≡ addresseeOf command ⌝ }
 {
-    if same_bytes(&address, &own) {
-        return true;
+    match command {
+        Command::ReadData => Addressee::OwnOrShort,
+        Command::ReadAddress => Addressee::Wildcards,
+        Command::WriteData => Addressee::Own,
+        Command::WriteAddress => Addressee::Wildcards,
+        Command::ChangePassword => Addressee::Own,
     }
-    short_matches(address, own)
+}
+
+// Whether an address field names the meter of this address.
+fn names_meter(addressee: Addressee, address: [u8; 6], own: [u8; 6]) -> bool
+    ensures { λ r. ⌜ r ≡ namesMeter addressee address own ⌝ }
+{
+    let wildcards = [WILDCARD; 6];
+    match addressee {
+        Addressee::Own => same_bytes(&address, &own),
+        Addressee::Wildcards => same_bytes(&address, &wildcards),
+        Addressee::OwnOrShort => {
+            if same_bytes(&address, &own) {
+                return true;
+            }
+            short_matches(address, own)
+        }
+    }
 }
 
 // Whether a frame with this command and address is for the meter of this address.
 pub fn is_addressed(command: Command, address: [u8; 6], own: [u8; 6]) -> bool
     ensures { λ r. ⌜ r ≡ addressed command address own ⌝ }
 {
-    let wildcards = [WILDCARD; 6];
-    match command {
-        Command::ReadData => matches_read(address, own),
-        Command::ReadAddress => same_bytes(&address, &wildcards),
-        Command::WriteData => same_bytes(&address, &own),
-        Command::WriteAddress => same_bytes(&address, &wildcards),
-        Command::ChangePassword => same_bytes(&address, &own),
-    }
+    names_meter(addressee_of(command), address, own)
 }

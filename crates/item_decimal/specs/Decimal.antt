@@ -2,9 +2,10 @@
 use Prim.Native.Nat.{ℕ, zero, suc, _+_, _*_, _/_, _%_, _^_, _≤_}
 use mathlib.Core.List.{List, [], _∷_}
 use mathlib.Core.Bool.{Bool, true, false, _&&_}
-use lib.ListN.{length}
+use lib.ListN.{length, take, drop}
 use lib.Dec.{leb, ltb}
-use Rattle.laws.specs.Memory.{Outcome, outcome, pick}
+use Rattle.laws.specs.Memory.{Outcome, outcome}
+use Rattle.laws.specs.Test.{pick}
 use Rattle.item_decimal.specs.declared.Scan.{Scan}
 use Rattle.item_decimal.specs.declared.Scan.the-variants.{AllDecimal, BadAt}
 use Rattle.item_decimal.specs.declared.Packed.{Packed}
@@ -50,6 +51,11 @@ unfoldable pub unpacked : List ℕ → ℕ
 unpacked [] = 0
 unpacked (b ∷ bs) = digits b + 100 * unpacked bs
 
+-- So many numbers, of four packed bytes each.
+unfoldable pub decoded : ℕ → List ℕ → List ℕ
+decoded zero bytes = []
+decoded (suc n) bytes = unpacked (take 4 bytes) ∷ decoded n (drop 4 bytes)
+
 -- The lowest digits of a number, in so many bytes.
 unfoldable pub packed : ℕ → ℕ → List ℕ
 packed zero n = []
@@ -60,9 +66,9 @@ unfoldable pub packing : ℕ → List ℕ → Outcome Packed
 packing n m = pick (ltb n (100 ^ length m)) (outcome Done (packed (length m) n)) (outcome TooLarge m)
 
 -- The number, or where the bytes have a half byte above 9. More than nine bytes are too long.
-abbrev pub numberOf : Scan → List ℕ → Unpacked
-numberOf AllDecimal bytes = Number (unpacked bytes)
-numberOf (BadAt i) bytes = NotDecimal i
+abbrev pub scannedNumber : Scan → List ℕ → Unpacked
+scannedNumber AllDecimal bytes = Number (unpacked bytes)
+scannedNumber (BadAt i) bytes = NotDecimal i
 
 unfoldable pub unpacking : List ℕ → Unpacked
-unpacking bytes = pick (leb (length bytes) 9) (numberOf (firstBad bytes) bytes) TooLong
+unpacking bytes = pick (leb (length bytes) 9) (scannedNumber (firstBad bytes) bytes) TooLong

@@ -4,11 +4,15 @@ use mathlib.Core.Path.{_≡_, refl, ap}
 use mathlib.Core.List.{List, [], _∷_, _++_}
 use mathlib.Core.Bool.{Bool, true, false, true≢false, false≢true, and-eq-true-iff}
 use native.Mathlib.Nat.{div-div-eq-div-mul, pow-succ'}
+use native.Mathlib.Numerals.{add-one}
 use native.Mathlib.Omega.{arith}
 use lib.ListN.{length, take, drop, getD}
+use lib.Seq.{drop-cons, drop-length}
 use lib.Dec.{leb}
 use borrow.Author.Tests.{leb-true, le-leb}
-use Rattle.laws.specs.Memory.{Bytes, pick}
+use Rattle.laws.specs.Memory.{Bytes}
+use Rattle.laws.specs.Test.{pick}
+use Rattle.laws.specs.Walk.{Walk}
 use Rattle.item_decimal.specs.Decimal.{Decimal, allDecimal, firstBad, firstBadFrom, foundNone, isDecimal, digits, lowDigits, packed, unpacked}
 use Rattle.item_decimal.specs.declared.Scan.{Scan}
 use Rattle.item_decimal.specs.declared.Scan.the-variants.{AllDecimal, BadAt}
@@ -31,33 +35,38 @@ pub record FirstBad (bytes : List ℕ) (i : ℕ) : Type 0 where
   pub before : Decimal (take i bytes)
 
 -- What a scan that counts places from `i` on says of the bytes.
-data Scanned (i : ℕ) (bytes : List ℕ) : Scan → Type 0 where
-  nothing : Decimal bytes → Scanned i bytes AllDecimal
-  something : (j k : ℕ) → i + k ≡ j → FirstBad bytes k → Scanned i bytes (BadAt j)
+data ScanSays (i : ℕ) (bytes : List ℕ) : Scan → Type 0 where
+  nothing : Decimal bytes → ScanSays i bytes AllDecimal
+  something : (j k : ℕ) → i + k ≡ j → FirstBad bytes k → ScanSays i bytes (BadAt j)
 
 -- One byte before the bytes of a scan.
 module _ (i b : ℕ) (bs : List ℕ) where
-  scanned-behind : {r : Scan} → isDecimal b ≡ true → Scanned (i + 1) bs r → Scanned i (b ∷ bs) r
-  scanned-behind h (nothing d) = let halves = decimal-halves b h in nothing (halves .0, halves .1, d)
-  scanned-behind h (something j k e f) =
+  says-behind : {r : Scan} → isDecimal b ≡ true → ScanSays (i + 1) bs r → ScanSays i (b ∷ bs) r
+  says-behind h (nothing d) = let halves = decimal-halves b h in nothing (halves .0, halves .1, d)
+  says-behind h (something j k e f) =
       let halves = decimal-halves b h in
       something j (suc k) (omega arith) (record { inside = omega arith; bad = f .bad; before = (halves .0, halves .1, f .before) })
 
-  scanned-next : (t : Bool) {r : Scan} → isDecimal b ≡ t → Scanned (i + 1) bs r → Scanned i (b ∷ bs) (pick t r (BadAt i))
-  scanned-next true h s = scanned-behind h s
-  scanned-next false h s = something i 0 (omega arith) (record { inside = omega arith; bad = h; before = tt })
+  says-next : (t : Bool) {r : Scan} → isDecimal b ≡ t → ScanSays (i + 1) bs r → ScanSays i (b ∷ bs) (pick t r (BadAt i))
+  says-next true h s = says-behind h s
+  says-next false h s = something i 0 (omega arith) (record { inside = omega arith; bad = h; before = tt })
 
-scanned : (i : ℕ) (bytes : List ℕ) → Scanned i bytes (firstBadFrom i bytes)
+scan-says : (i : ℕ) (bytes : List ℕ) → ScanSays i bytes (firstBadFrom i bytes)
 unfolding firstBadFrom
-scanned i [] = nothing tt
-scanned i (b ∷ bs) = scanned-next i b bs (isDecimal b) refl (scanned (i + 1) bs)
+scan-says i [] = nothing tt
+scan-says i (b ∷ bs) = says-next i b bs (isDecimal b) refl (scan-says (i + 1) bs)
+
+-- The scan is a walk that stops at the first such byte.
+pub decimal-walk : (bytes : List ℕ) → Walk (length bytes) (λ i. isDecimal (getD bytes i 0)) BadAt AllDecimal (λ i. firstBadFrom i (drop i bytes))
+unfolding firstBadFrom
+decimal-walk bytes = record { last = rw drop-length; next = λ i h. rw (drop-cons bytes i 0 h, add-one) }
 
 -- The scan finds nothing exactly where every half byte is 0 to 9.
 pub all-decimal : (bytes : List ℕ) → allDecimal bytes ≡ true → Decimal bytes
 unfolding allDecimal firstBad
-all-decimal bytes h = says (scanned 0 bytes) h
+all-decimal bytes h = says (scan-says 0 bytes) h
   where
-    says : {r : Scan} → Scanned 0 bytes r → foundNone r ≡ true → Decimal bytes
+    says : {r : Scan} → ScanSays 0 bytes r → foundNone r ≡ true → Decimal bytes
     says (nothing d) e = d
     says (something j k q f) e = absurd (false≢true e)
 
@@ -79,9 +88,9 @@ decimal-all bytes h = ap foundNone (decimal-scan bytes h)
 
 pub bad-first : (bytes : List ℕ) (i : ℕ) → firstBad bytes ≡ BadAt i → FirstBad bytes i
 unfolding firstBad
-bad-first bytes i h = says (scanned 0 bytes) h
+bad-first bytes i h = says (scan-says 0 bytes) h
   where
-    says : {r : Scan} → Scanned 0 bytes r → r ≡ BadAt i → FirstBad bytes i
+    says : {r : Scan} → ScanSays 0 bytes r → r ≡ BadAt i → FirstBad bytes i
     says (nothing d) e = absurd (true≢false (ap foundNone e))
     says (something j k q f) e =
         let place : j ≡ i = cc in

@@ -1,7 +1,7 @@
 -- Checks in document 01's order: the first failing check answers.
 use mathlib.Core.List.{List, [], _∷_}
 use mathlib.Core.Bool.{Bool}
-use Rattle.laws.specs.Memory.{pick}
+use Rattle.laws.specs.Test.{pick}
 
 -- A check, and what it fails with.
 pub record Check (A : Type 0) : Type 0 where

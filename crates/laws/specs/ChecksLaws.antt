@@ -4,8 +4,8 @@ use mathlib.Core.Path.{_≡_, refl, sym, _∙_}
 use mathlib.Core.List.{List, [], _∷_}
 use mathlib.Core.Bool.{Bool, true, false}
 use lib.ListN.{drop}
-use Rattle.laws.specs.Memory.{pick}
-use Rattle.laws.specs.MemoryLaws.{pick-cases}
+use Rattle.laws.specs.Test.{pick}
+use Rattle.laws.specs.TestLaws.{pick-cases}
 use Rattle.laws.specs.Checks.{Check, firstFailing}
 
 -- Every check of a list holds.

@@ -1,7 +1,14 @@
+pub mod Test
+pub mod TestLaws
+pub mod All
+pub mod AllLaws
 pub mod Memory
 pub mod MemoryLaws
+pub mod Puts
 pub mod Part
 pub mod PartLaws
 pub mod JoinLaws
+pub mod ShiftLaws
+pub mod Walk
 pub mod Checks
 pub mod ChecksLaws

@@ -1,8 +1,9 @@
 -- How every operation speaks of memory lent to it: its answer is paired with the memory as it stands on return.
 use Prim.Native.Nat.{ℕ, _<_}
-use mathlib.Core.List.{List, [], _∷_, _++_}
-use mathlib.Core.Bool.{Bool, true, false}
+use mathlib.Core.Path.{_≡_}
+use mathlib.Core.List.{List, _++_}
 use lib.ListN.{length, drop}
+use Rattle.laws.specs.All.{AllOf}
 
 -- An answer together with the lent memory as it stands when the call returns.
 pub record Outcome (A : Type 0) : Type 0 where
@@ -16,12 +17,13 @@ outcome a m = record { answer = a; memory = m }
 abbrev pub over : List ℕ → List ℕ → List ℕ
 over written m = written ++ drop (length written) m
 
--- The first of two where the test holds, and else the second.
-abbrev pub pick : {A : Type 0} → Bool → A → A → A
-pick true a b = a
-pick false a b = b
+-- What a refusal, a silence or a call leaves alone is as it was.
+abbrev pub LeftAlone : {A : Type 0} → A → A → Type 0
+LeftAlone before after = after ≡ before
 
--- Every number of the list is a byte.
+-- A number is a byte, and every number of a list is one.
+abbrev pub IsByte : ℕ → Type 0
+IsByte b = b < 256
+
 abbrev pub Bytes : List ℕ → Type 0
-Bytes [] = Unit
-Bytes (b ∷ bs) = (b < 256) × Bytes bs
+Bytes bytes = AllOf IsByte bytes

@@ -7,8 +7,7 @@ use native.Mathlib.Numerals.{add-one}
 use native.Mathlib.Omega.{arith}
 use lib.ListN.{length, take, drop, getD, set, length-append, length-map, length-set, length-drop, take-append-drop, drop-of-length-le}
 use lib.Seq.{sets, take-all, take-length, take-suc, take-at, drop-at, drop-drop, append-snoc, length-take-le}
-use mathlib.Core.Bool.{Bool, true, false}
-use Rattle.laws.specs.Memory.{over, pick}
+use Rattle.laws.specs.Memory.{over}
 
 -- What fits is written without a change of the length.
 pub over-length : (xs m : List ℕ) → length xs ≤ length m → length (over xs m) ≡ length m
@@ -102,8 +101,3 @@ module _ {f : ℕ → ℕ} {xs ys zs : List ℕ} {i : ℕ} where
   -- After the last store all of `xs` is written.
   pub mapping-end : Mapping f xs ys i zs → length xs ≤ i → zs ≡ over (map f xs) ys
   mapping-end m h = rw (m .so-far, take-all)
-
--- What holds of both ways out of a test holds of what it picks.
-pub pick-cases : {A : Type 0} (P : A → Type 0) (t : Bool) {a b : A} → (t ≡ true → P a) → (t ≡ false → P b) → P (pick t a b)
-pick-cases P true first second = first refl
-pick-cases P false first second = second refl

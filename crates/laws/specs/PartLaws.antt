@@ -5,6 +5,8 @@ use mathlib.Core.List.{List, [], _++_, append-nil, append-assoc}
 use native.Mathlib.Omega.{arith}
 use lib.ListN.{length, take, drop, length-append, length-take, length-drop, take-append-drop, drop-of-length-le}
 use lib.Seq.{length-take-le, take-length, take-at, take-append-le, drop-append-le, drop-append-add, drop-at, drop-drop}
+use Rattle.laws.specs.Memory.{over}
+use Rattle.laws.specs.MemoryLaws.{over-length, copied, lent-over}
 use Rattle.laws.specs.Part.{part, withPart}
 
 -- A part has its length, and a part of what stands in front is the same whatever follows.
@@ -61,3 +63,12 @@ copied-part at end value xs back e h =
     let most : length (take (end - at) (drop at xs)) ≤ length value = rw (length-take, count) (omega arith) in
     let all : back ≡ value = h ∙ copied-whole value (take (end - at) (drop at xs)) most in
     rw (all, count, drop-drop)
+
+-- Bytes copied to a part that is lent from place `n` on, just behind what is written.
+pub copied-behind : (n : ℕ) (xs ys m : List ℕ) {o y : List ℕ} → length xs ≡ n → n + length ys ≤ length m → o ≡ over xs m
+    → y ≡ take (length ys) ys ++ drop (length ys) (take (length m - n) (drop n o))
+    → take n o ++ (y ++ drop (length m - n) (drop n o)) ≡ over (xs ++ ys) m
+copied-behind n xs ys m {o} {y} e h p q =
+    let same : length o ≡ length m = ap length p ∙ over-length xs m (omega arith) in
+    let whole : y ≡ over ys (take (length m - n) (drop n o)) = q ∙ copied ys (take (length m - n) (drop n o)) in
+    rw (whole, ← same, p) (lent-over n xs ys m e h)

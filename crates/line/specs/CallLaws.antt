@@ -10,7 +10,8 @@ use lib.ListN.{length, take, drop, length-append, length-drop, length-replicate}
 use lib.Seq.{take-append-seam}
 use lib.Dec.{leb}
 use borrow.Author.Tests.{leb-true, leb-false}
-use Rattle.laws.specs.Memory.{Outcome, outcome, pick}
+use Rattle.laws.specs.Memory.{Outcome, outcome}
+use Rattle.laws.specs.Test.{pick}
 use Rattle.frame.specs.Recognition.{recognised}
 use Rattle.frame.specs.RecognitionLaws.{open-most}
 use Rattle.line_verdict.specs.VerdictLaws.{within-as}
@@ -87,7 +88,7 @@ keeping-received {x} {y} {r} b h e =
 
 -- What it reads with one symbol more: the bytes and the number of the new frames, and what the scan keeps after that symbol.
 module _ {x : List Symbol} {r : Receiver} (s : Symbol) (h : HasReceived x r) where
-  reads-joined : joined (readingWith r s .frames) ≡ joined (newFrames x s)
+  pub reads-joined : joined (readingWith r s .frames) ≡ joined (newFrames x s)
   unfolding readingWith newFrames
   reads-joined = rw (h .bytes) (place-joined _ _ _)
 
@@ -100,14 +101,14 @@ module _ {x : List Symbol} {r : Receiver} (s : Symbol) (h : HasReceived x r) whe
   reads-kept = rw (h .bytes, one-more x s .kept) (place-kept _ _ _)
 
 -- It is within its range, so a call looks at the memory.
-within : {x : List Symbol} {r : Receiver} → HasReceived x r → withinRange r ≡ true
+pub received-within : {x : List Symbol} {r : Receiver} → HasReceived x r → withinRange r ≡ true
 unfolding keptBytes
-within {x} {r} h = within-as (r .kept) (r .count) (received-most h) (ap recognised (h .bytes) ∙ scan-kept-open 0 0 x)
+received-within {x} {r} h = within-as (r .kept) (r .count) (received-most h) (ap recognised (h .bytes) ∙ scan-kept-open 0 0 x)
 
 called-within : {x : List Symbol} {r : Receiver} (s : Symbol) (m : List ℕ) → HasReceived x r →
     called s r m ≡ pick (leb 212 (length m)) (delivered (readingWith r s) r m) (refused 1 r m)
 unfolding called
-called-within s m h = rw (within h)
+called-within s m h = rw (received-within h)
 
 -- What a call answers: refused with 1 under 212 bytes of memory, and nothing changed; else the new frames, handed on.
 pub data Answers (x : List Symbol) (s : Symbol) (r : Receiver) (m : List ℕ) (returned : Received) (left : List ℕ) : Type 0 where

@@ -5,7 +5,7 @@ use mathlib.Core.Path.{_≡_, sym, subst}
 use mathlib.Core.Logic.{_↔_}
 use mathlib.Core.List.{List, [], _∷_, _++_, List·Memᴰ}
 use lib.ListN.{length, take}
-use Rattle.laws.specs.Memory.{outcome}
+use Rattle.laws.specs.Memory.{outcome, LeftAlone}
 use Rattle.line_terms.specs.Line.{Symbol, Certain}
 use Rattle.line_terms.specs.Places.{Found, Rising, joined}
 use Rattle.line_terms.specs.Scan.{scan}
@@ -19,19 +19,19 @@ use Rattle.line.specs.declared.Answer.{Answer}
 use Rattle.line.specs.declared.Answer.the-variants.{Refused, Delivered}
 
 -- A call: the symbol that it brought, the memory lent to it, what it returned, and that memory as it stood then.
-pub record Call : Type 0 where
+pub record ReceiverCall : Type 0 where
   pub symbol : Symbol
   pub lent : List ℕ
   pub returned : Received
   pub left : List ℕ
 
 -- The receiver after a list of calls.
-abbrev pub receiverAfter : Receiver → List Call → Receiver
+abbrev pub receiverAfter : Receiver → List ReceiverCall → Receiver
 receiverAfter r [] = r
 receiverAfter r (c ∷ cs) = receiverAfter (c .returned .receiver) cs
 
 -- Of each call, what its `ensures` says, given the receiver that the last one returned.
-abbrev pub Calls : Receiver → List Call → Type 0
+abbrev pub Calls : Receiver → List ReceiverCall → Type 0
 Calls r [] = Unit
 Calls r (c ∷ cs) = (outcome (c .returned) (c .left) ≡ called (c .symbol) r (c .lent)) × Calls (c .returned .receiver) cs
 
@@ -41,7 +41,7 @@ receivedBy (Refused n) s = []
 receivedBy (Delivered bytes frames) s = s ∷ []
 
 -- Document 01's line heard: the symbols of all calls not refused.
-abbrev pub heard : List Call → List Symbol
+abbrev pub heard : List ReceiverCall → List Symbol
 heard [] = []
 heard (c ∷ cs) = receivedBy (c .returned .answer) (c .symbol) ++ heard cs
 
@@ -51,7 +51,7 @@ deliveredBy (Refused n) left = []
 deliveredBy (Delivered bytes frames) left = take bytes left
 
 -- All that was handed on, joined.
-abbrev pub deliveredBytes : List Call → List ℕ
+abbrev pub deliveredBytes : List ReceiverCall → List ℕ
 deliveredBytes [] = []
 deliveredBytes (c ∷ cs) = deliveredBy (c .returned .answer) (c .left) ++ deliveredBytes cs
 
@@ -71,26 +71,26 @@ IsRefusal (Refused n) = Unit
 IsRefusal (Delivered bytes frames) = ⊥
 
 -- A call lent under 212 bytes is refused with 1, and nothing changed.
-pub record Ignored (r : Receiver) (c : Call) : Type 0 where
+pub record Ignored (r : Receiver) (c : ReceiverCall) : Type 0 where
   pub answer : c .returned .answer ≡ Refused 1
-  pub receiver : c .returned .receiver ≡ r
-  pub memory : c .left ≡ c .lent
+  pub receiver : LeftAlone r (c .returned .receiver)
+  pub memory : LeftAlone (c .lent) (c .left)
 
 -- Any other call gives the numbers of bytes and frames of the frames that became certain with its symbol.
-pub record Counted (line : List Symbol) (c : Call) : Type 1 where
+pub record Counted (line : List Symbol) (c : ReceiverCall) : Type 1 where
   pub new : Exactly (Newly line (c .symbol))
   pub answer : c .returned .answer ≡ Delivered (length (joined (new .frames))) (length (new .frames))
 
 -- What holds of a call, by the line heard before it and the receiver given to it.
-pub record CallIsRight (line : List Symbol) (r : Receiver) (c : Call) : Type 1 where
+pub record CallIsRight (line : List Symbol) (r : Receiver) (c : ReceiverCall) : Type 1 where
   pub refused : IsRefusal (c .returned .answer) ↔ (length (c .lent) < 212)
   pub short : length (c .lent) < 212 → Ignored r c
   pub enough : 212 ≤ length (c .lent) → Counted line c
 
 -- What holds of a list of calls from a fresh receiver.
-pub record ReceivesTheLine (calls : List Call) : Type 1 where
+pub record ReceivesTheLine (calls : List ReceiverCall) : Type 1 where
   -- each call of the list
-  pub each : (earlier : List Call) (c : Call) (later : List Call) → calls ≡ earlier ++ (c ∷ later) →
+  pub each : (earlier : List ReceiverCall) (c : ReceiverCall) (later : List ReceiverCall) → calls ≡ earlier ++ (c ∷ later) →
       CallIsRight (heard earlier) (receiverAfter fresh earlier) c
   -- the frames certain after the line heard, and that all that was handed on, joined, is their bytes joined
   pub certain : Exactly (Certain (heard calls))
@@ -99,11 +99,11 @@ pub record ReceivesTheLine (calls : List Call) : Type 1 where
   pub kept : receiverAfter fresh calls .count ≤ 211
 
 -- What a call answers, by the line that the receiver given to it has heard.
-abbrev AnswersOf : List Symbol → Receiver → Call → Type 0
+abbrev AnswersOf : List Symbol → Receiver → ReceiverCall → Type 0
 AnswersOf line r c = Answers line (c .symbol) r (c .lent) (c .returned) (c .left)
 
 -- A call that answers so is right.
-call-right : {line : List Symbol} {r : Receiver} {c : Call} → AnswersOf line r c → CallIsRight line r c
+call-right : {line : List Symbol} {r : Receiver} {c : ReceiverCall} → AnswersOf line r c → CallIsRight line r c
 call-right (ignores l a e m) =
     record {
       refused = (λ w. l, λ h. rw a tt);
@@ -126,12 +126,12 @@ call-right {line} {c = c} (delivers l a e m) =
         }
 
 -- After a call, and after a list of calls, the receiver has heard what they heard, and what was found with it was handed on.
-call-after : {line : List Symbol} {r : Receiver} {c : Call} → HasReceived line r → AnswersOf line r c →
+call-after : {line : List Symbol} {r : Receiver} {c : ReceiverCall} → HasReceived line r → AnswersOf line r c →
     After line (receivedBy (c .returned .answer) (c .symbol)) (deliveredBy (c .returned .answer) (c .left)) (c .returned .receiver)
 call-after h (ignores l a e m) = rw (a, e) (after-none h)
 call-after h (delivers l a e m) = rw (a, m) (after-one e)
 
-calls-after : {line : List Symbol} {r : Receiver} (calls : List Call) → HasReceived line r → Calls r calls →
+calls-after : {line : List Symbol} {r : Receiver} (calls : List ReceiverCall) → HasReceived line r → Calls r calls →
     After line (heard calls) (deliveredBytes calls) (receiverAfter r calls)
 calls-after [] h k = after-none h
 calls-after (c ∷ cs) h k =
@@ -139,13 +139,13 @@ calls-after (c ∷ cs) h k =
     after-then a (calls-after cs (a .heard) (k .1))
 
 -- Of calls joined, the first are calls, and the others are calls of the receiver that the first return.
-calls-split : (r : Receiver) (earlier later : List Call) → Calls r (earlier ++ later) →
+calls-split : (r : Receiver) (earlier later : List ReceiverCall) → Calls r (earlier ++ later) →
     Calls r earlier × Calls (receiverAfter r earlier) later
 calls-split r [] later k = (tt, k)
 calls-split r (c ∷ cs) later k = let s = calls-split (c .returned .receiver) cs later (k .1) in ((k .0, s .0), s .1)
 
 -- Demand 3.
-pub demand-3 : (calls : List Call) → Calls fresh calls → ReceivesTheLine calls
+pub demand-3 : (calls : List ReceiverCall) → Calls fresh calls → ReceivesTheLine calls
 unfolding scan joined
 demand-3 calls h =
     let after : After [] (heard calls) (deliveredBytes calls) (receiverAfter fresh calls) = calls-after calls fresh-received h in

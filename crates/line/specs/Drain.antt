@@ -7,9 +7,9 @@ use lib.ListN.{length, drop}
 use Rattle.laws.specs.Memory.{over}
 use Rattle.line_terms.specs.Line.{Symbol, byte, silence}
 use Rattle.line_terms.specs.Places.{Found, joined}
-use Rattle.line_terms.specs.Scan.{Reading, scan}
+use Rattle.line_terms.specs.Scan.{LineReading, scan}
 use Rattle.line.specs.declared.drain.Drained.{Drained}
-use Rattle.line.specs.declared.drain.Settled.{Settled}
+use Rattle.line.specs.declared.drain.Rescanned.{Rescanned}
 
 -- The symbols of bytes, with a silence behind them or nothing.
 unfoldable pub symbols : List ℕ → Bool → List Symbol
@@ -17,11 +17,11 @@ symbols bytes true = map byte bytes ++ (silence ∷ [])
 symbols bytes false = map byte bytes
 
 -- The reading of bytes from a place on.
-unfoldable pub readingFrom : ℕ → List ℕ → Bool → Reading
+unfoldable pub readingFrom : ℕ → List ℕ → Bool → LineReading
 readingFrom place bytes closed = scan place 0 (symbols bytes closed)
 
 -- A reading behind frames found before it.
-unfoldable pub behind : List Found → Reading → Reading
+unfoldable pub behind : List Found → LineReading → LineReading
 behind found r = record { frames = found ++ r .frames; kept = r .kept }
 
 -- What draining a line from a place on has done: the frames of its reading stand over the front of the memory, they are counted, and
@@ -34,8 +34,8 @@ pub record Drains (line : List ℕ) (start : ℕ) (closed : Bool) (m₀ m : List
   pub bytes : r .bytes ≡ length (joined (readingFrom start (drop start line) closed .frames))
   pub frames : r .frames ≡ length (readingFrom start (drop start line) closed .frames)
 
--- What settling bytes of this reading has done: its frames are delivered and counted, and what it keeps stands over the front of the array.
-pub record Settles (reading : Reading) (kept₀ kept m₀ m : List ℕ) (r : Settled) : Type 0 where
+-- What is done with kept bytes that begin no frame, where this is their reading: its frames are delivered and counted, and what it keeps stands over the front of the array.
+pub record Rescans (reading : LineReading) (kept₀ kept m₀ m : List ℕ) (r : Rescanned) : Type 0 where
   pub rest : kept ≡ over (reading .kept) kept₀
   pub count : r .count ≡ length (reading .kept)
   pub memory : m ≡ over (joined (reading .frames)) m₀

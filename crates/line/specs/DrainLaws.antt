@@ -7,7 +7,7 @@ use native.Mathlib.Omega.{arith}
 use native.Mathlib.Nat.{le-refl, sub-zero, zero-sub, suc-sub-suc, not-suc-le-zero, le-of-suc-le-suc, add-zero, add-suc, suc-add}
 use native.Mathlib.Numerals.{add-one, sub-one}
 use lib.ListN.{length, take, drop, length-append, length-drop, drop-of-length-le}
-use lib.Seq.{take-nil, take-all, drop-drop, length-take-le}
+use lib.Seq.{take-nil, drop-drop, length-take-le}
 use Rattle.laws.specs.Memory.{over}
 use Rattle.laws.specs.MemoryLaws.{over-length, lent-over}
 use Rattle.frame.specs.Recognition.{recognised}
@@ -17,8 +17,8 @@ use Rattle.frame.specs.declared.Recognised.the-variants.{Whole, Open, Neither}
 use Rattle.line_terms.specs.Line.{byte}
 use Rattle.line_terms.specs.Places.{Found, joined}
 use Rattle.line_terms.specs.PlaceLaws.{joined-append}
-use Rattle.line_terms.specs.Scan.{Reading, scan, begins, bytesBefore, broken, settled, readingBy, before}
-use Rattle.line.specs.Drain.{symbols, readingFrom, behind, Drains, Settles}
+use Rattle.line_terms.specs.Scan.{LineReading, scan, begins, bytesBefore, broken, beforeSilence, readingBy, before}
+use Rattle.line.specs.Drain.{symbols, readingFrom, behind, Drains, Rescans}
 use Rattle.line.specs.declared.drain.Drained.{Drained}
 
 symbols-bytes : (x : List ℕ) (c : Bool) → bytesBefore (symbols x c) ≡ x
@@ -35,7 +35,7 @@ symbols-broken [] false = refl
 symbols-broken (b ∷ x) true = symbols-broken x true
 symbols-broken (b ∷ x) false = symbols-broken x false
 
-symbols-begin : (x : List ℕ) (c : Bool) → begins (symbols x c) ≡ settled c (recognised x)
+symbols-begin : (x : List ℕ) (c : Bool) → begins (symbols x c) ≡ beforeSilence c (recognised x)
 unfolding begins
 symbols-begin x c = rw (symbols-bytes x c, symbols-broken x c)
 
@@ -53,23 +53,23 @@ passed p (suc k) (b ∷ x) c h = rw symbols-cons (passed (suc p) k x c (le-of-su
 
 -- One step of the reading of bytes, of which there are some.
 reading-cons : (p b : ℕ) (x : List ℕ) (c : Bool) →
-    readingFrom p (b ∷ x) c ≡ readingBy (settled c (recognised (b ∷ x))) p (b ∷ x) (λ k. scan (suc p) k (symbols x c))
+    readingFrom p (b ∷ x) c ≡ readingBy (beforeSilence c (recognised (b ∷ x))) p (b ∷ x) (λ k. scan (suc p) k (symbols x c))
 unfolding readingFrom scan
 reading-cons p b x c =
-    let e : begins (byte b ∷ symbols x c) ≡ settled c (recognised (b ∷ x)) = rw symbols-cons at (symbols-begin (b ∷ x) c) in
+    let e : begins (byte b ∷ symbols x c) ≡ beforeSilence c (recognised (b ∷ x)) = rw symbols-cons at (symbols-begin (b ∷ x) c) in
     let f : bytesBefore (byte b ∷ symbols x c) ≡ b ∷ x = rw symbols-cons at (symbols-bytes (b ∷ x) c) in
     rw symbols-cons (λ i. readingBy (e i) p (f i) (λ k. scan (suc p) k (symbols x c)))
 
 -- Where nothing is left, nothing is found.
 pub reading-end : (p : ℕ) (c : Bool) → readingFrom p [] c ≡ record { frames = []; kept = [] }
-unfolding readingFrom scan symbols begins broken bytesBefore readingBy settled
+unfolding readingFrom scan symbols begins broken bytesBefore readingBy beforeSilence
 reading-end p true = rw empty-open
 reading-end p false = refl
 
 -- A whole frame found, whether or not a silence follows.
-found-whole : (c : Bool) (v : Recognised) (n p : ℕ) (bytes : List ℕ) (go : ℕ → Reading) → v ≡ Whole n →
-    readingBy (settled c v) p bytes go ≡ before p (take n bytes) (go (n - 1))
-unfolding readingBy settled
+found-whole : (c : Bool) (v : Recognised) (n p : ℕ) (bytes : List ℕ) (go : ℕ → LineReading) → v ≡ Whole n →
+    readingBy (beforeSilence c v) p bytes go ≡ before p (take n bytes) (go (n - 1))
+unfolding readingBy beforeSilence
 found-whole true v n p bytes go e = rw e
 found-whole false v n p bytes go e = rw e
 
@@ -90,7 +90,7 @@ reading-whole p (suc n) (b ∷ x) c e =
     ∙ ap (λ (m : ℕ). readingFrom m (drop n x) c) (suc-add p n ∙ sym (add-suc p n)))
 
 -- A byte that begins nothing is dropped.
-pub reading-neither : (p : ℕ) (x : List ℕ) (c : Bool) → 0 < length x → settled c (recognised x) ≡ Neither →
+pub reading-neither : (p : ℕ) (x : List ℕ) (c : Bool) → 0 < length x → beforeSilence c (recognised x) ≡ Neither →
     readingFrom p x c ≡ readingFrom (p + 1) (drop 1 x) c
 unfolding readingBy readingFrom
 reading-neither p [] c h e = absurd (not-suc-le-zero h)
@@ -98,23 +98,23 @@ reading-neither p (b ∷ x) c h e = reading-cons p b x c ∙ (rw (e, add-one))
 
 -- An unfinished frame is kept.
 pub reading-open : (p : ℕ) (x : List ℕ) → recognised x ≡ Open → readingFrom p x false ≡ record { frames = []; kept = x }
-unfolding readingBy settled
+unfolding readingBy beforeSilence
 reading-open p [] e = reading-end p false
 reading-open p (b ∷ x) e = reading-cons p b x false ∙ rw e
 
 -- Before a silence nothing is kept.
-by-closed : (v : Recognised) (p : ℕ) (bytes : List ℕ) (from : ℕ → Reading) → ((k : ℕ) → from k .kept ≡ []) →
-    readingBy (settled true v) p bytes from .kept ≡ []
-unfolding readingBy settled before
+by-closed : (v : Recognised) (p : ℕ) (bytes : List ℕ) (from : ℕ → LineReading) → ((k : ℕ) → from k .kept ≡ []) →
+    readingBy (beforeSilence true v) p bytes from .kept ≡ []
+unfolding readingBy beforeSilence before
 by-closed (Whole n) p bytes from h = h (n - 1)
 by-closed Open p bytes from h = h 0
 by-closed Neither p bytes from h = h 0
 
 scan-closed : (x : List ℕ) (p k : ℕ) → scan p k (symbols x true) .kept ≡ []
 unfolding scan symbols readingFrom
-scan-closed [] p zero = ap (λ (r : Reading). r .kept) (reading-end p true)
+scan-closed [] p zero = ap (λ (r : LineReading). r .kept) (reading-end p true)
 scan-closed [] p (suc k) = refl
-scan-closed (b ∷ x) p zero = ap (λ (r : Reading). r .kept) (reading-cons p b x true) ∙ by-closed (recognised (b ∷ x)) p (b ∷ x) (λ k. scan (suc p) k (symbols x true)) (scan-closed x (suc p))
+scan-closed (b ∷ x) p zero = ap (λ (r : LineReading). r .kept) (reading-cons p b x true) ∙ by-closed (recognised (b ∷ x)) p (b ∷ x) (λ k. scan (suc p) k (symbols x true)) (scan-closed x (suc p))
 scan-closed (b ∷ x) p (suc k) = scan-closed x (suc p) k
 
 pub reading-closed : (p : ℕ) (x : List ℕ) → readingFrom p x true .kept ≡ []
@@ -153,10 +153,6 @@ draining-start line start closed m h =
       size = refl;
     }
 
--- The rest of a list from a place on, as a part of it with that start is read.
-pub rest-part : (a : ℕ) (l : List ℕ) → take (length l - a) (drop a l) ≡ drop a l
-rest-part a l = take-all (length l - a) (drop a l) (rw length-drop (le-refl (length l - a)))
-
 -- A part between two places, as the front of what follows the first or as what follows the first in a front.
 pub part-of-front : (a n : ℕ) (l : List ℕ) → take (n - a) (drop a l) ≡ drop a (take n l)
 part-of-front zero n l = rw sub-zero
@@ -165,7 +161,7 @@ part-of-front (suc a) (suc n) [] = rw take-nil
 part-of-front (suc a) (suc n) (x ∷ l) = rw suc-sub-suc (part-of-front a n l)
 
 -- A frame found is one more behind those found before.
-behind-more : (fs : List Found) (p : ℕ) (f : List ℕ) (r : Reading) →
+behind-more : (fs : List Found) (p : ℕ) (f : List ℕ) (r : LineReading) →
     behind fs (before p f r) ≡ behind (fs ++ (record { place = p; frame = f } ∷ [])) r
 unfolding behind before
 behind-more fs p f r = λ i. record { frames = sym (append-assoc fs (record { place = p; frame = f } ∷ []) (r .frames)) i; kept = r .kept }
@@ -176,7 +172,7 @@ joined-more fs p f = joined-append fs (record { place = p; frame = f } ∷ []) �
 
 module _ (line : List ℕ) (start : ℕ) (closed : Bool) (m₀ m : List ℕ) (at written count : ℕ) (d : Draining line start closed m₀ m at written count) where
   -- A turn that drops a byte.
-  pub draining-next : at < length line → settled closed (recognised (drop at line)) ≡ Neither → Draining line start closed m₀ m (at + 1) written count
+  pub draining-next : at < length line → beforeSilence closed (recognised (drop at line)) ≡ Neither → Draining line start closed m₀ m (at + 1) written count
   draining-next h e =
       let some : 0 < length (drop at line) = simp length-drop (omega arith) in
       record {
@@ -241,11 +237,11 @@ module _ (line : List ℕ) (start : ℕ) (closed : Bool) (m₀ m : List ℕ) (at
   unfolding behind
   draining-done e =
       let s : readingFrom start (drop start line) closed ≡ record { frames = d .found ++ []; kept = drop at line } = d .split ∙ ap (behind (d .found)) e in
-      let t : readingFrom start (drop start line) closed .frames ≡ d .found = ap (λ (r : Reading). r .frames) s ∙ append-nil (d .found) in
+      let t : readingFrom start (drop start line) closed .frames ≡ d .found = ap (λ (r : LineReading). r .frames) s ∙ append-nil (d .found) in
       record {
         later = d .later;
         within = d .within;
-        rest = sym (ap (λ (r : Reading). r .kept) s);
+        rest = sym (ap (λ (r : LineReading). r .kept) s);
         memory = rw t (d .memory);
         bytes = rw t (d .bytes);
         frames = rw t (d .frames);
@@ -263,21 +259,21 @@ module _ (line : List ℕ) (start : ℕ) (closed : Bool) (m₀ m : List ℕ) (at
 
   -- A turn that gives up an unfinished frame before a silence.
   pub draining-closed : at < length line → closed ≡ true → recognised (drop at line) ≡ Open → Draining line start closed m₀ m (at + 1) written count
-  unfolding settled
+  unfolding beforeSilence
   draining-closed h t e = draining-next h (rw (e, t))
 
--- Bytes that begin no frame are settled by draining them from the second on and keeping the rest.
-pub drained-settles : (kept kept₁ line m m₁ : List ℕ) (count b : ℕ) (r : Drained) →
+-- Draining bytes that begin no frame from the second on and keeping the rest reads them.
+pub drained-rescans : (kept kept₁ line m m₁ : List ℕ) (count b : ℕ) (r : Drained) →
     take (count + 1) line ≡ take count kept ++ (b ∷ []) → recognised (take count kept ++ (b ∷ [])) ≡ Neither →
     Drains (take (count + 1) line) 1 false m m₁ r → kept₁ ≡ over (take (count + 1 - r .at) (drop (r .at) line)) kept → count + 1 ≤ length line →
-    Settles (readingFrom 0 (take count kept ++ (b ∷ [])) false) kept kept₁ m m₁ (record { count = count + 1 - r .at; bytes = r .bytes; frames = r .frames })
-unfolding settled
-drained-settles kept kept₁ line m m₁ count b r e n d k h =
+    Rescans (readingFrom 0 (take count kept ++ (b ∷ [])) false) kept kept₁ m m₁ (record { count = count + 1 - r .at; bytes = r .bytes; frames = r .frames })
+unfolding beforeSilence
+drained-rescans kept kept₁ line m m₁ count b r e n d k h =
     let y : List ℕ = take count kept ++ (b ∷ []) in
     let some : 0 < length y = simp length-append (omega arith) in
-    let one : readingFrom 0 y false ≡ readingFrom 1 (drop 1 y) false = reading-neither 0 y false some (ap (settled false) n) in
+    let one : readingFrom 0 y false ≡ readingFrom 1 (drop 1 y) false = reading-neither 0 y false some (ap (beforeSilence false) n) in
     let same : readingFrom 1 (drop 1 (take (count + 1) line)) false ≡ readingFrom 0 y false = ap (λ (l : List ℕ). readingFrom 1 (drop 1 l) false) e ∙ sym one in
-    let rest : take (count + 1 - r .at) (drop (r .at) line) ≡ readingFrom 0 y false .kept = part-of-front (r .at) (count + 1) line ∙ d .rest ∙ ap (λ (q : Reading). q .kept) same in
+    let rest : take (count + 1 - r .at) (drop (r .at) line) ≡ readingFrom 0 y false .kept = part-of-front (r .at) (count + 1) line ∙ d .rest ∙ ap (λ (q : LineReading). q .kept) same in
     let long : length (take (count + 1) line) ≡ count + 1 = length-take-le (count + 1) line h in
     record {
       rest = k ∙ ap (λ (l : List ℕ). over l kept) rest;

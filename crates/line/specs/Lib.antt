@@ -3,4 +3,5 @@ pub mod CallLaws
 pub mod Demand3
 pub mod Drain
 pub mod DrainLaws
-pub mod StepLaws
+pub mod CallCases
+pub mod DeliversLaws

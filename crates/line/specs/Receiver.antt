@@ -4,19 +4,22 @@ use mathlib.Core.List.{List, [], _∷_, _++_, map}
 use mathlib.Core.Bool.{Bool}
 use lib.ListN.{length, take, replicate}
 use lib.Dec.{leb}
-use Rattle.laws.specs.Memory.{Outcome, outcome, over, pick}
+use Rattle.laws.specs.Memory.{Outcome, outcome, over}
+use Rattle.laws.specs.Test.{pick}
+use Rattle.frame.specs.Frame.{mostFrame}
 use Rattle.frame.specs.Refusals.{shortMemory, outOfRange}
+use Rattle.line_verdict.specs.Verdict.{mostKept}
 use Rattle.line_verdict.specs.Verdict as verdict
 use Rattle.line_terms.specs.Line.{Symbol, byte}
 use Rattle.line_terms.specs.Places.{joined}
-use Rattle.line_terms.specs.Scan.{Reading, scan}
+use Rattle.line_terms.specs.Scan.{LineReading, scan}
 use Rattle.line.specs.declared.Receiver.{Receiver}
 use Rattle.line.specs.declared.Received.{Received}
 use Rattle.line.specs.declared.Answer.the-variants.{Refused, Delivered}
 
--- A fresh receiver has heard nothing.
+-- Document 01's term fresh: a receiver that has heard nothing.
 unfoldable pub fresh : Receiver
-fresh = record { kept = replicate 211 0; count = 0 }
+fresh = record { kept = replicate mostKept 0; count = 0 }
 
 -- The bytes that a receiver keeps: the first of its array, as many as it counts.
 unfoldable pub keptBytes : Receiver → List ℕ
@@ -35,7 +38,7 @@ unfoldable pub refused : ℕ → Receiver → List ℕ → Outcome Received
 refused n r m = outcome (record { receiver = r; answer = Refused n }) m
 
 -- What the kept bytes with one symbol more read as.
-unfoldable pub readingWith : Receiver → Symbol → Reading
+unfoldable pub readingWith : Receiver → Symbol → LineReading
 readingWith r s = scan 0 0 (map byte (keptBytes r) ++ (s ∷ []))
 
 -- The receiver that keeps these bytes; the rest of its array stays as it was.
@@ -43,7 +46,7 @@ unfoldable pub keeping : List ℕ → Receiver → Receiver
 keeping bytes r = record { kept = over bytes (r .kept); count = length bytes }
 
 -- The frames found are delivered and the rest is kept.
-unfoldable pub delivered : Reading → Receiver → List ℕ → Outcome Received
+unfoldable pub delivered : LineReading → Receiver → List ℕ → Outcome Received
 delivered d r m =
     outcome
     (record {
@@ -53,9 +56,9 @@ delivered d r m =
     (over (joined (d .frames)) m)
 
 -- The outcome of a call with a symbol: 16 for a receiver out of its range, then 1 for under 212 bytes of lent memory, else what the
--- symbol settles.
+-- kept bytes with the symbol read as, delivered.
 unfoldable pub called : Symbol → Receiver → List ℕ → Outcome Received
 called s r m =
     pick (withinRange r)
-    (pick (leb 212 (length m)) (delivered (readingWith r s) r m) (refused shortMemory r m))
+    (pick (leb mostFrame (length m)) (delivered (readingWith r s) r m) (refused shortMemory r m))
     (refused outOfRange r m)

@@ -1,13 +1,17 @@
 // Delivers the frames that stand in bytes whose first place cannot become a frame any more.
+use frame::MOST_FRAME;
+use line_verdict::MOST_KEPT;
 ghost use mathlib.Core.Path.{_≡_};
 ghost use mathlib.Core.List.{_++_, _∷_, []};
 ghost use mathlib.Core.Bool.{true, false};
 ghost use Prim.Native.Nat.{_+_, _≤_};
 ghost use lib.ListN.{length, take};
 ghost use Rattle.laws.specs.Memory.{over};
+ghost use Rattle.frame.specs.Frame.{mostFrame};
 ghost use Rattle.frame.specs.Recognition.{recognised};
 ghost use Rattle.frame.specs.declared.Recognised.the-variants.{Neither};
-ghost use Rattle.line.specs.Drain.{Drains, Settles, readingFrom};
+ghost use Rattle.line_verdict.specs.Verdict.{mostKept};
+ghost use Rattle.line.specs.Drain.{Drains, Rescans, readingFrom};
 
 // Where draining stopped, and how many bytes of how many frames it delivered.
 pub(crate) struct Drained {
@@ -17,7 +21,7 @@ pub(crate) struct Drained {
 }
 
 // How many bytes are kept, and how many bytes of how many frames were delivered.
-pub(crate) struct Settled {
+pub(crate) struct Rescanned {
     pub count: usize,
     pub bytes: usize,
     pub frames: usize,
@@ -73,28 +77,28 @@ pub(crate) fn join(kept: &[u8], count: usize, b: u8, out: &mut [u8])
     out[count] = b;
 }
 
-// Settles the first `count` bytes of `kept` and the byte after them, which begin no frame: delivers the frames that stand
-// in them past the first place, and keeps the unfinished rest.
-pub(crate) fn settle(kept: &mut [u8; 211], count: usize, b: u8, out: &mut [u8]) -> Settled
-    requires { ⌜ (length (now kept) ≡ 211) × (count ≤ 211) × (212 ≤ length (now out)) ⌝ }
+// Reads the first `count` bytes of `kept` and the byte after them, which begin no frame, from the second place on: delivers
+// the frames that stand in them, and keeps the unfinished rest.
+pub(crate) fn rescan(kept: &mut [u8; MOST_KEPT], count: usize, b: u8, out: &mut [u8]) -> Rescanned
+    requires { ⌜ (length (now kept) ≡ mostKept) × (count ≤ mostKept) × (mostFrame ≤ length (now out)) ⌝ }
     requires { ⌜ recognised (take count (now kept) ++ (b ∷ [])) ≡ Neither ⌝ }
-    ensures { λ r. ⌜ Settles (readingFrom 0 (take count (now (kept .entry)) ++ (b ∷ [])) false) (now (kept .entry)) (now (kept .exit)) (now (out .entry)) (now (out .exit)) r ⌝ }
+    ensures { λ r. ⌜ Rescans (readingFrom 0 (take count (now (kept .entry)) ++ (b ∷ [])) false) (now (kept .entry)) (now (kept .exit)) (now (out .entry)) (now (out .exit)) r ⌝ }
 {
-    let mut line = [0u8; 212];
+    let mut line = [0u8; MOST_FRAME];
     join(kept, count, b, &mut line);
     let n = count + 1;
     let d = drain(&line[..n], 1, false, out);
     let at = d.at;
     bytes::copy(&line[at..n], kept);
-    Settled {
+    Rescanned {
         count: n - at,
         bytes: d.bytes,
         frames: d.frames,
     }
 }
 
-// Gives up the first `count` bytes of `kept` at a silence, and delivers the frames that stand in them.
-pub(crate) fn give_up(kept: &[u8], count: usize, out: &mut [u8]) -> Drained
+// Delivers the frames that stand in the first `count` bytes of `kept`, behind which a silence stands.
+pub(crate) fn drain_at_silence(kept: &[u8], count: usize, out: &mut [u8]) -> Drained
     requires { ⌜ (count ≤ length (now kept)) × (count ≤ length (now out)) ⌝ }
     ensures { λ r. ⌜ Drains (take count (now (kept .entry))) 0 true (now (out .entry)) (now (out .exit)) r ⌝ }
 {

@@ -2,8 +2,10 @@
 // the frames that became certain with it. Demand 3 of the letter is `demand-3` in specs/Demand3.antt.
 mod drain;
 
+use frame::MOST_FRAME;
 use frame::refusal::OUT_OF_RANGE;
 use frame::refusal::SHORT_MEMORY;
+use line_verdict::MOST_KEPT;
 use line_verdict::Verdict;
 ghost use mathlib.Core.Path.{_≡_};
 ghost use Rattle.laws.specs.Memory.{outcome};
@@ -12,7 +14,7 @@ ghost use Rattle.line.specs.Receiver.{fresh, called};
 
 // A receiver: the first `count` bytes of `kept` are an unfinished frame. The array beyond them is never looked at.
 pub struct Receiver {
-    pub kept: [u8; 211],
+    pub kept: [u8; MOST_KEPT],
     pub count: usize,
 }
 
@@ -36,7 +38,7 @@ impl Receiver {
         ensures { λ r. ⌜ r ≡ fresh ⌝ }
     {
         Receiver {
-            kept: [0u8; 211],
+            kept: [0u8; MOST_KEPT],
             count: 0,
         }
     }
@@ -47,7 +49,7 @@ impl Receiver {
         ensures { λ r. ⌜ outcome r (now (out .exit)) ≡ called (byte b) self (now (out .entry)) ⌝ }
     {
         let count = self.count;
-        let v = line_verdict::decide(&self.kept, count, b, out.len());
+        let v = line_verdict::verdict_on(&self.kept, count, b, out.len());
         let mut answer = Answer::Delivered {
             bytes: 0,
             frames: 0,
@@ -60,7 +62,7 @@ impl Receiver {
                 answer = Answer::Refused(SHORT_MEMORY);
             }
             Verdict::Skips => {}
-            Verdict::Grows => {
+            Verdict::StillOpen => {
                 self.kept[count] = b;
                 self.count = count + 1;
             }
@@ -72,8 +74,8 @@ impl Receiver {
                     frames: 1,
                 };
             }
-            Verdict::Falls => {
-                let s = drain::settle(&mut self.kept, count, b, out);
+            Verdict::BeginsNone => {
+                let s = drain::rescan(&mut self.kept, count, b, out);
                 self.count = s.count;
                 answer = Answer::Delivered {
                     bytes: s.bytes,
@@ -87,7 +89,7 @@ impl Receiver {
         }
     }
 
-    // Receives a silence: whatever is kept is given up, and the frames inside it are delivered. Refusals as for a byte.
+    // Receives a silence: nothing stays kept, and the frames that stand in what was kept are delivered. Refusals as for a byte.
     pub fn silence(self, out: &mut [u8]) -> Received
         ensures { λ r. ⌜ outcome r (now (out .exit)) ≡ called silence self (now (out .entry)) ⌝ }
     {
@@ -98,13 +100,13 @@ impl Receiver {
                 answer: Answer::Refused(OUT_OF_RANGE),
             };
         }
-        if out.len() < 212 {
+        if out.len() < MOST_FRAME {
             return Received {
                 receiver: self,
                 answer: Answer::Refused(SHORT_MEMORY),
             };
         }
-        let d = drain::give_up(&self.kept, count, out);
+        let d = drain::drain_at_silence(&self.kept, count, out);
         let kept = self.kept;
         Received {
             receiver: Receiver { kept, count: 0 },

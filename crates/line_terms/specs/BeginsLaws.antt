@@ -1,4 +1,4 @@
--- Laws of what symbols begin with: their bytes up to the first silence, and what is settled of them.
+-- Laws of what symbols begin with: their bytes up to the first silence, and what these come to where one follows.
 use Prim.Native.Nat.{ℕ, _≤_}
 use native.Mathlib.Omega.{arith}
 use mathlib.Core.Path.{_≡_, refl, ap}
@@ -9,7 +9,7 @@ use Rattle.frame.specs.Recognition.{recognised}
 use Rattle.frame.specs.declared.Recognised.{Recognised}
 use Rattle.frame.specs.declared.Recognised.the-variants.{Whole, Open, Neither}
 use Rattle.line_terms.specs.Line.{Symbol, byte, silence}
-use Rattle.line_terms.specs.Scan.{bytesBefore, broken, settled, begins}
+use Rattle.line_terms.specs.Scan.{bytesBefore, broken, beforeSilence, begins}
 
 -- There are no more bytes than symbols.
 pub bytes-length : (x : List Symbol) → length (bytesBefore x) ≤ length x
@@ -25,23 +25,23 @@ unbroken [] e = refl
 unbroken (byte b ∷ x) e = ap (λ (l : List Symbol). byte b ∷ l) (unbroken x e)
 unbroken (silence ∷ x) e = cc
 
--- What is settled as a whole frame was recognised as one.
-pub settled-whole : (b : Bool) (r : Recognised) (n : ℕ) → settled b r ≡ Whole n → r ≡ Whole n
-unfolding settled
-settled-whole b (Whole m) n e = e
-settled-whole true Open n e = cc
-settled-whole false Open n e = e
-settled-whole b Neither n e = e
+-- What is a whole frame once it is known whether a silence follows was recognised as one.
+pub before-silence-whole : (b : Bool) (r : Recognised) (n : ℕ) → beforeSilence b r ≡ Whole n → r ≡ Whole n
+unfolding beforeSilence
+before-silence-whole b (Whole m) n e = e
+before-silence-whole true Open n e = cc
+before-silence-whole false Open n e = e
+before-silence-whole b Neither n e = e
 
--- What is settled as open was recognised as that, and no silence follows.
-settled-open : (b : Bool) (r : Recognised) → settled b r ≡ Open → (b ≡ false) × (r ≡ Open)
-unfolding settled
-settled-open b (Whole n) e = (cc, cc)
-settled-open true Open e = (cc, cc)
-settled-open false Open e = (refl, refl)
-settled-open b Neither e = (cc, cc)
+-- What is open then was recognised as that, and no silence follows.
+before-silence-open : (b : Bool) (r : Recognised) → beforeSilence b r ≡ Open → (b ≡ false) × (r ≡ Open)
+unfolding beforeSilence
+before-silence-open b (Whole n) e = (cc, cc)
+before-silence-open true Open e = (cc, cc)
+before-silence-open false Open e = (refl, refl)
+before-silence-open b Neither e = (cc, cc)
 
 -- Symbols that are open have no silence among them, and their bytes are open.
 pub begins-open : (x : List Symbol) → begins x ≡ Open → (broken x ≡ false) × (recognised (bytesBefore x) ≡ Open)
 unfolding begins
-begins-open x e = settled-open (broken x) (recognised (bytesBefore x)) e
+begins-open x e = before-silence-open (broken x) (recognised (bytesBefore x)) e

@@ -7,7 +7,7 @@ use Rattle.frame.specs.RecognitionLaws.{whole-frame}
 use Rattle.frame.specs.EndToEnd.{EndToEnd, none, next}
 use Rattle.line_terms.specs.Line.{Symbol}
 use Rattle.line_terms.specs.Places.{Found, joined}
-use Rattle.line_terms.specs.Scan.{Reading, bytesBefore, before, scan}
+use Rattle.line_terms.specs.Scan.{LineReading, bytesBefore, before, scan}
 use Rattle.line_terms.specs.ScanLaws.{Scans, ends, covered, finds, stops, drops, scans, begins-whole}
 
 -- All that is found are frames.
@@ -21,7 +21,7 @@ each-frame [] w = tt
 each-frame (f ∷ fs) w = (w f (List·Memᴰ·head refl), each-frame fs (λ g m. w g (List·Memᴰ·tail m)))
 
 -- A scan finds frames.
-scans-frames : {place k : ℕ} {x : List Symbol} {r : Reading} → Scans place k x r → AllFrames (r .frames)
+scans-frames : {place k : ℕ} {x : List Symbol} {r : LineReading} → Scans place k x r → AllFrames (r .frames)
 unfolding before
 scans-frames ends = tt
 scans-frames (covered w) = scans-frames w

@@ -7,7 +7,7 @@ use lib.ListN.{length, take, length-append}
 use lib.Seq.{length-take-le}
 use Rattle.line_terms.specs.Line.{Symbol, byte, silence}
 use Rattle.line_terms.specs.Places.{joined}
-use Rattle.line_terms.specs.Scan.{Reading, bytesBefore, before, scan}
+use Rattle.line_terms.specs.Scan.{LineReading, bytesBefore, before, scan}
 use Rattle.line_terms.specs.ScanLaws.{Scans, ends, covered, finds, stops, drops, scans, begins-within}
 
 -- How many bytes are among the symbols.
@@ -29,7 +29,7 @@ bytes-in-closed [] = refl
 bytes-in-closed (b ∷ l) = ap suc (bytes-in-closed l)
 
 -- The frames found have no more bytes than there are among the symbols past those still covered.
-scans-few : {place k : ℕ} {x : List Symbol} {r : Reading} → k ≤ length (bytesBefore x) → Scans place k x r →
+scans-few : {place k : ℕ} {x : List Symbol} {r : LineReading} → k ≤ length (bytesBefore x) → Scans place k x r →
     length (joined (r .frames)) + k ≤ bytesIn x
 unfolding before joined bytesIn bytesBefore
 scans-few h ends = omega arith

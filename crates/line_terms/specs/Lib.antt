@@ -1,5 +1,5 @@
 pub mod Line
-pub mod Reading
+pub mod OneChoice
 pub mod Places
 pub mod PlaceLaws
 pub mod Scan

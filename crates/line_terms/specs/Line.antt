@@ -17,7 +17,7 @@ AllBytes [] = Unit
 AllBytes (byte b ∷ x) = (b < 256) × AllBytes x
 AllBytes (silence ∷ x) = AllBytes x
 
--- A frame stands at a place if the symbols from there are all the bytes of a frame, with no silence among them.
+-- Document 01's term stands: a frame stands at a place if the symbols from there are all the bytes of a frame, with no silence among them.
 pub record Stands (line : List Symbol) (place : ℕ) (frame : List ℕ) : Type 0 where
   pub whole : Frame frame
   pub there : take (length frame) (drop place line) ≡ map byte frame
@@ -26,7 +26,7 @@ pub record Stands (line : List Symbol) (place : ℕ) (frame : List ℕ) : Type 0
 abbrev pub Choice : Type 1
 Choice = ℕ → List ℕ → Type 0
 
--- A taken frame that began earlier covers the place.
+-- Document 01's term covers: a taken frame that began earlier covers the place.
 pub record Covered (taken : Choice) (place : ℕ) : Type 0 where
   pub start : ℕ
   pub frame : List ℕ
@@ -34,12 +34,13 @@ pub record Covered (taken : Choice) (place : ℕ) : Type 0 where
   pub earlier : start < place
   pub reaches : place < start + length frame
 
--- The rule: a frame is taken exactly if it stands at its place and no taken frame that began earlier covers that place.
+-- Document 01's rule of its term taken: a frame is taken exactly if it stands at its place and no taken frame that began earlier
+-- covers that place. A choice that meets it for every place and frame keeps the rule.
 abbrev pub Keeps : List Symbol → Choice → Type 0
 Keeps line taken =
     (place : ℕ) (frame : List ℕ) → taken place frame ↔ (Stands line place frame × (Covered taken place → ⊥))
 
--- A frame is certain after a list of symbols if it is taken, at the same place, in every list that begins with that one.
+-- Document 01's term certain: a frame is certain after a list of symbols if it is taken, at the same place, in every list that begins with that one.
 abbrev pub Certain : List Symbol → ℕ → List ℕ → Type 1
 Certain line place frame =
     (more : List Symbol) → AllBytes more → (taken : Choice) → Keeps (line ++ more) taken → taken place frame

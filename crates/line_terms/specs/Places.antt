@@ -2,7 +2,7 @@
 use Prim.Native.Nat.{ℕ, _<_}
 use mathlib.Core.List.{List, [], _∷_, _++_}
 
--- A frame and the place of its first byte.
+-- A frame and its place, document 01's term: that of its first byte, counted from 0.
 pub record Found : Type 0 where
   pub place : ℕ
   pub frame : List ℕ

@@ -9,8 +9,8 @@ use Rattle.frame.specs.Frame.{Frame}
 use Rattle.laws.specs.Memory.{Bytes}
 use Rattle.line_terms.specs.Line.{Symbol, byte, AllBytes, Stands, Choice, Keeps, Certain}
 use Rattle.line_terms.specs.Places.{Found}
-use Rattle.line_terms.specs.Scan.{Reading, bytesBefore, scan}
-use Rattle.line_terms.specs.Reading.{OneChoice, one-choice}
+use Rattle.line_terms.specs.Scan.{LineReading, bytesBefore, scan}
+use Rattle.line_terms.specs.OneChoice.{OneChoice, one-choice}
 use Rattle.frame.specs.RecognitionLaws.{Completion, open-completes, frame-least}
 use Rattle.line_terms.specs.TakenLaws.{Takes, Read, reads, begins-frame, begins-whole, whole-passed}
 
@@ -35,7 +35,7 @@ stands-within x place f s =
     omega (arith, frame-least (s .whole), simp (length-take, length-drop, length-map) at (ap length (s .there)))
 
 -- Where bytes complete what a reading kept to a frame, whatever is taken from there on ends past the symbols read.
-past-kept : (x : List Symbol) (more : List ℕ) (taken : Choice) (keeps : Keeps (x ++ map byte more) taken) (r : Reading)
+past-kept : (x : List Symbol) (more : List ℕ) (taken : Choice) (keeps : Keeps (x ++ map byte more) taken) (r : LineReading)
     (a : Read (x ++ map byte more) (map byte more) taken 0 r) → 0 < length more → Frame (r .kept ++ more) →
     (g : Found) → Takes taken g → a .stop ≤ g .place → length x < g .place + length (g .frame)
 past-kept x more taken keeps r a some w g t l =

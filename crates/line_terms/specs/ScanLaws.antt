@@ -6,25 +6,25 @@ use mathlib.Core.Bool.{Bool, true, false}
 use mathlib.Core.List.{List, [], _∷_, _++_, map, append-nil}
 use lib.ListN.{length, take}
 use lib.Seq.{take-append-le}
-use Rattle.laws.specs.Memory.{pick}
+use Rattle.laws.specs.Test.{pick}
 use Rattle.frame.specs.Recognition.{recognised}
 use Rattle.frame.specs.RecognitionLaws.{whole-within, whole-stays, neither-stays, empty-open}
 use Rattle.frame.specs.declared.Recognised.{Recognised}
 use Rattle.frame.specs.declared.Recognised.the-variants.{Whole, Open, Neither}
 use Rattle.line_terms.specs.Line.{Symbol, byte, silence}
 use Rattle.line_terms.specs.Places.{Found, AllAbove, Rising, joined}
-use Rattle.line_terms.specs.BeginsLaws.{settled-whole, begins-open, unbroken, bytes-length}
-use Rattle.line_terms.specs.Scan.{Reading, bytesBefore, broken, settled, begins, before, readingBy, scan}
+use Rattle.line_terms.specs.BeginsLaws.{before-silence-whole, begins-open, unbroken, bytes-length}
+use Rattle.line_terms.specs.Scan.{LineReading, bytesBefore, broken, beforeSilence, begins, before, readingBy, scan}
 
 -- The ways of the scan: at the end, past a covered symbol, past the first symbol of a frame, to a stop, past a symbol dropped.
-pub data Scans : ℕ → ℕ → List Symbol → Reading → Type 0 where
+pub data Scans : ℕ → ℕ → List Symbol → LineReading → Type 0 where
   ends : {place k : ℕ} → Scans place k [] (record { frames = []; kept = [] })
-  covered : {place k : ℕ} {s : Symbol} {x : List Symbol} {r : Reading} → Scans (suc place) k x r → Scans place (suc k) (s ∷ x) r
-  finds : {place n : ℕ} {s : Symbol} {x : List Symbol} {r : Reading} → begins (s ∷ x) ≡ Whole n → Scans (suc place) (n - 1) x r →
+  covered : {place k : ℕ} {s : Symbol} {x : List Symbol} {r : LineReading} → Scans (suc place) k x r → Scans place (suc k) (s ∷ x) r
+  finds : {place n : ℕ} {s : Symbol} {x : List Symbol} {r : LineReading} → begins (s ∷ x) ≡ Whole n → Scans (suc place) (n - 1) x r →
       Scans place zero (s ∷ x) (before place (take n (bytesBefore (s ∷ x))) r)
   stops : {place : ℕ} {s : Symbol} {x : List Symbol} → begins (s ∷ x) ≡ Open →
       Scans place zero (s ∷ x) (record { frames = []; kept = bytesBefore (s ∷ x) })
-  drops : {place : ℕ} {s : Symbol} {x : List Symbol} {r : Reading} → begins (s ∷ x) ≡ Neither → Scans (suc place) zero x r →
+  drops : {place : ℕ} {s : Symbol} {x : List Symbol} {r : LineReading} → begins (s ∷ x) ≡ Neither → Scans (suc place) zero x r →
       Scans place zero (s ∷ x) r
 
 -- Every scan goes one of these ways at each symbol.
@@ -41,7 +41,7 @@ scans place zero (s ∷ x) = go (begins (s ∷ x)) refl (λ k. scans (suc place)
     go Neither e h = drops e (h 0)
 
 -- The places of the frames found rise.
-scans-above : {place k : ℕ} {x : List Symbol} {r : Reading} (p : ℕ) → p < place → Scans place k x r → AllAbove p (r .frames)
+scans-above : {place k : ℕ} {x : List Symbol} {r : LineReading} (p : ℕ) → p < place → Scans place k x r → AllAbove p (r .frames)
 unfolding before
 scans-above p h ends = tt
 scans-above p h (covered w) = scans-above p (omega arith) w
@@ -49,7 +49,7 @@ scans-above p h (finds e w) = (h, scans-above p (omega arith) w)
 scans-above p h (stops e) = tt
 scans-above p h (drops e w) = scans-above p (omega arith) w
 
-scans-rising : {place k : ℕ} {x : List Symbol} {r : Reading} → Scans place k x r → Rising (r .frames)
+scans-rising : {place k : ℕ} {x : List Symbol} {r : LineReading} → Scans place k x r → Rising (r .frames)
 unfolding before
 scans-rising ends = tt
 scans-rising (covered w) = scans-rising w
@@ -61,7 +61,7 @@ pub scan-rising : (place k : ℕ) (x : List Symbol) → Rising (scan place k x .
 scan-rising place k x = scans-rising (scans place k x)
 
 -- What is kept is open.
-scans-open : {place k : ℕ} {x : List Symbol} {r : Reading} → Scans place k x r → recognised (r .kept) ≡ Open
+scans-open : {place k : ℕ} {x : List Symbol} {r : LineReading} → Scans place k x r → recognised (r .kept) ≡ Open
 unfolding before
 scans-open ends = empty-open
 scans-open (covered w) = scans-open w
@@ -73,7 +73,7 @@ pub scan-kept-open : (place k : ℕ) (x : List Symbol) → recognised (scan plac
 scan-kept-open place k x = scans-open (scans place k x)
 
 -- Readings that differ in no more than the places.
-record Alike (r r′ : Reading) : Type 0 where
+record Alike (r r′ : LineReading) : Type 0 where
   bytes : joined (r .frames) ≡ joined (r′ .frames)
   count : length (r .frames) ≡ length (r′ .frames)
   kept : r .kept ≡ r′ .kept
@@ -120,7 +120,7 @@ broken-then (silence ∷ x) y e = refl
 module _ (x : List Symbol) (n : ℕ) (e : begins x ≡ Whole n) where
   pub begins-whole : recognised (bytesBefore x) ≡ Whole n
   unfolding begins
-  begins-whole = settled-whole (broken x) (recognised (bytesBefore x)) n e
+  begins-whole = before-silence-whole (broken x) (recognised (bytesBefore x)) n e
 
   pub begins-within : n ≤ length (bytesBefore x)
   begins-within = whole-within (bytesBefore x) n begins-whole
@@ -130,11 +130,11 @@ module _ (x : List Symbol) (n : ℕ) (e : begins x ≡ Whole n) where
 
 -- More symbols change only an open verdict.
 pub begins-stays : (x y : List Symbol) → ¬ (begins x ≡ Open) → begins (x ++ y) ≡ begins x
-unfolding begins settled
+unfolding begins beforeSilence
 begins-stays x y h = go (broken x) (recognised (bytesBefore x)) refl refl
   where
     go : (b : Bool) (r : Recognised) → broken x ≡ b → recognised (bytesBefore x) ≡ r →
-        settled (broken (x ++ y)) (recognised (bytesBefore (x ++ y))) ≡ settled b r
+        beforeSilence (broken (x ++ y)) (recognised (bytesBefore (x ++ y))) ≡ beforeSilence b r
     go b (Whole n) d e = rw (bytes-then, whole-stays (bytesBefore x) _ n e)
     go b Neither d e = rw (bytes-then, neither-stays (bytesBefore x) _ e)
     go true Open d e = rw (bytes-then x y, broken-then x y d, d, append-nil, e)
@@ -147,13 +147,13 @@ pub record More (x y : List Symbol) : Type 0 where
   pub kept : scan 0 0 (x ++ y) .kept ≡ scan place 0 (map byte (scan 0 0 x .kept) ++ y) .kept
 
 -- The same of a reading and the reading with more symbols, from any place on.
-record Grows (y : List Symbol) (r later : Reading) : Type 0 where
+record ReadsOn (y : List Symbol) (r later : LineReading) : Type 0 where
   place : ℕ
   frames : later .frames ≡ r .frames ++ scan place 0 (map byte (r .kept) ++ y) .frames
   kept : later .kept ≡ scan place 0 (map byte (r .kept) ++ y) .kept
 
-scans-more : {place k : ℕ} {x : List Symbol} {r : Reading} (y : List Symbol) → k ≤ length x → Scans place k x r →
-    Grows y r (scan place k (x ++ y))
+scans-more : {place k : ℕ} {x : List Symbol} {r : LineReading} (y : List Symbol) → k ≤ length x → Scans place k x r →
+    ReadsOn y r (scan place k (x ++ y))
 unfolding scan readingBy before
 scans-more y h (ends {place} {k}) =
     let z : k ≡ 0 = omega arith in
@@ -161,7 +161,7 @@ scans-more y h (ends {place} {k}) =
 scans-more y h (covered w) = scans-more y (omega arith) w
 scans-more y h (finds {place} {n} {s = t} {x} {r} e w) =
     let l : n ≤ length (bytesBefore (t ∷ x)) = begins-within (t ∷ x) n e in
-    let g : Grows y r (scan (suc place) (n - 1) (x ++ y)) = scans-more y (omega (arith, bytes-length (t ∷ x))) w in
+    let g : ReadsOn y r (scan (suc place) (n - 1) (x ++ y)) = scans-more y (omega (arith, bytes-length (t ∷ x))) w in
     rw (begins-stays (t ∷ x) y (λ o. let z : _≡_ {A = ℕ} 0 1 = cc in omega arith), e, same-frame (t ∷ x) n e y)
     (record {
       place = g .place;
@@ -180,7 +180,7 @@ scans-more y h (drops {s = t} {x} e w) =
 
 pub more : (x y : List Symbol) → More x y
 more x y =
-    let g : Grows y (scan 0 0 x) (scan 0 0 (x ++ y)) = scans-more y (omega arith) (scans 0 0 x) in
+    let g : ReadsOn y (scan 0 0 x) (scan 0 0 (x ++ y)) = scans-more y (omega arith) (scans 0 0 x) in
     record { place = g .place; frames = g .frames; kept = g .kept }
 
 -- One symbol more.

@@ -6,21 +6,7 @@ use native.Mathlib.Numerals.{add-one}
 use mathlib.Core.Path.{_≡_, refl, sym, _∙_, ap, ap₂, subst}
 use mathlib.Core.Logic.{_⊎_, inl, inr, ⊎-elim, ⊎-map}
 use mathlib.Core.Bool.{false}
-use mathlib.Core.List.{
-  List,
-  [],
-  _∷_,
-  _++_,
-  map,
-  append-nil,
-  List·Memᴰ,
-  List·Memᴰ·head,
-  List·Memᴰ·not-nil,
-  List·Memᴰ·eq-of-singleton,
-  List·Memᴰ·append-cases,
-  Memᴰ·append-left,
-  Memᴰ·append-right,
-}
+use mathlib.Core.List.{List, [], _∷_, _++_, map, append-nil, List·Memᴰ, List·Memᴰ·head, List·Memᴰ·not-nil, List·Memᴰ·eq-of-singleton, List·Memᴰ·append-cases, Memᴰ·append-left, Memᴰ·append-right}
 use lib.ListN.{length, take, drop}
 use lib.Seq.{length-take-le, take-append-seam, drop-drop}
 use Rattle.frame.specs.Frame.{Frame}
@@ -29,16 +15,9 @@ use Rattle.frame.specs.declared.Recognised.{Recognised}
 use Rattle.frame.specs.declared.Recognised.the-variants.{Whole, Open, Neither}
 use Rattle.line_terms.specs.Line.{Symbol, byte, silence, Stands, Choice, Covered, Keeps}
 use Rattle.line_terms.specs.Places.{Found}
-use Rattle.line_terms.specs.BeginsLaws.{settled-whole, begins-open, unbroken, bytes-length}
-use Rattle.line_terms.specs.Scan.{Reading, bytesBefore, broken, settled, begins, before, readingBy, scan}
-use Rattle.frame.specs.RecognitionLaws.{
-  frame-least,
-  frame-whole,
-  whole-within,
-  whole-frame,
-  completes-open,
-  empty-open,
-}
+use Rattle.line_terms.specs.BeginsLaws.{before-silence-whole, begins-open, unbroken, bytes-length}
+use Rattle.line_terms.specs.Scan.{LineReading, bytesBefore, broken, beforeSilence, begins, before, readingBy, scan}
+use Rattle.frame.specs.RecognitionLaws.{frame-least, frame-whole, whole-within, whole-frame, completes-open, empty-open}
 
 -- A frame in front of symbols lies within their bytes, or goes on beyond them with no silence in between.
 data Front (x : List Symbol) (f : List ℕ) : Type 0 where
@@ -67,7 +46,7 @@ data Begins (x : List Symbol) (f : List ℕ) : Type 0 where
 
 -- So symbols begin if a frame stands in front, whatever follows them.
 frame-begins : (x more : List Symbol) (f : List ℕ) → Frame f → take (length f) (x ++ more) ≡ map byte f → Begins x f
-unfolding begins settled
+unfolding begins beforeSilence
 frame-begins x more f w e = go (front x more f e)
   where
     go : Front x f → Begins x f
@@ -104,7 +83,7 @@ begins-whole x n e =
     }
   where
     known : recognised (bytesBefore x) ≡ Whole n
-    known = settled-whole (broken x) (recognised (bytesBefore x)) n e
+    known = before-silence-whole (broken x) (recognised (bytesBefore x)) n e
 
     fits : n ≤ length (bytesBefore x)
     fits = whole-within (bytesBefore x) n known
@@ -117,7 +96,7 @@ begins-whole x n e =
 
 -- A frame, as symbols, begins with itself.
 pub begins-frame : (f : List ℕ) → Frame f → begins (map byte f) ≡ Whole (length f)
-unfolding begins settled bytesBefore
+unfolding begins beforeSilence bytesBefore
 begins-frame f w = rw (bytes-of f, rw append-nil at (frame-whole f [] w))
   where
     bytes-of : (b : List ℕ) → bytesBefore (map byte b) ≡ b
@@ -147,7 +126,7 @@ pub record Passed (taken : Choice) (from to : ℕ) (fs : List Found) : Type 0 wh
   pub free : Free taken to
 
 -- A reading from a place on: where it stops, and that the bytes kept stand there, before what follows, and may still become a frame.
-pub record Read (line more : List Symbol) (taken : Choice) (from : ℕ) (r : Reading) : Type 0 where
+pub record Read (line more : List Symbol) (taken : Choice) (from : ℕ) (r : LineReading) : Type 0 where
   pub stop : ℕ
   pub passed : Passed taken from stop (r .frames)
   pub begun : recognised (r .kept) ≡ Open
@@ -165,7 +144,7 @@ module _ (line more : List Symbol) (taken : Choice) where
       }
 
   -- A reading that goes on where places are passed.
-  read-then : {from mid : ℕ} {fs : List Found} {r : Reading} → Passed taken from mid fs → Read line more taken mid r →
+  read-then : {from mid : ℕ} {fs : List Found} {r : LineReading} → Passed taken from mid fs → Read line more taken mid r →
       Read line more taken from (record { frames = fs ++ r .frames; kept = r .kept })
   read-then p a = record { stop = a .stop; passed = passed-then p (a .passed); begun = a .begun; there = a .there }
 

@@ -1,3 +1,3 @@
 pub mod Verdict
 pub mod VerdictLaws
-pub mod DecidedLaws
+pub mod VerdictOnLaws

@@ -11,11 +11,11 @@ use lib.Dec.{leb, eqb}
 use borrow.Author.Tests.{le-leb, lt-leb, eq-eqb, ne-eqb}
 use Rattle.frame.specs.Frame.{checksumOf, lengthOf}
 use Rattle.frame.specs.Recognition.{stage, recognised, recognisedBody, recognisedEnd}
-use Rattle.frame.specs.RecognitionSteps.{stage-open, stage-passed, stage-wrong}
+use Rattle.frame.specs.StageLaws.{stage-open, stage-passed, stage-wrong}
 use Rattle.frame.specs.declared.Recognised.{Recognised}
 use Rattle.frame.specs.declared.Recognised.the-variants as found
 use Rattle.line_verdict.specs.Verdict.{isOpen, withinRange, keptWith, comesTo, judged, Headed}
-use Rattle.line_verdict.specs.declared.Verdict.the-variants.{Bad, Skips, Grows, Whole, Falls}
+use Rattle.line_verdict.specs.declared.Verdict.the-variants.{Bad, Skips, StillOpen, Whole, BeginsNone}
 
 -- A list has the array's first n bytes in front.
 pub record Agrees (kept : List ℕ) (n : ℕ) (z : List ℕ) : Type 0 where
@@ -140,8 +140,8 @@ module _ (kept : List ℕ) (n b : ℕ) (size : length kept ≡ 211) (fits : n �
     still-open : n ≤ i → withinRange kept n ≡ true
     still-open h = within-as kept n fits (reach _ old ∙ stage-open (take n kept) i (test (take n kept)) (next (take n kept)) (rw long h))
 
-    pub grows-before : n < i → Grows ≡ judged kept n b
-    grows-before h =
+    pub still-open-before : n < i → StillOpen ≡ judged kept n b
+    still-open-before h =
         judged-as kept n b (still-open (omega arith)) (reach _ new ∙ stage-open with i (test with) (next with) (rw longer (omega arith)))
 
     ends-at : n ≡ i → test with ≡ false → comesTo n found.Neither ≡ judged kept n b
@@ -150,14 +150,14 @@ module _ (kept : List ℕ) (n b : ℕ) (size : length kept ≡ 211) (fits : n �
     pub skips-at : n ≡ 0 → n ≡ i → test with ≡ false → Skips ≡ judged kept n b
     skips-at z h f = rw (eq-eqb n 0 z) at (ends-at h f)
 
-    pub falls-at : 0 < n → n ≡ i → test with ≡ false → Falls ≡ judged kept n b
-    falls-at s h f = rw (ne-eqb n 0 (λ z. omega arith)) at (ends-at h f)
+    pub begins-none-at : 0 < n → n ≡ i → test with ≡ false → BeginsNone ≡ judged kept n b
+    begins-none-at s h f = rw (ne-eqb n 0 (λ z. omega arith)) at (ends-at h f)
 
     passes : n ≡ i → test with ≡ true → recognised with ≡ next with
     passes h f = reach _ new ∙ stage-passed with i (next with) (rw longer (omega arith)) f
 
-    pub grows-at : n ≡ i → test with ≡ true → next with ≡ found.Open → Grows ≡ judged kept n b
-    grows-at h f o = judged-as kept n b (still-open (omega arith)) (passes h f ∙ o)
+    pub still-open-at : n ≡ i → test with ≡ true → next with ≡ found.Open → StillOpen ≡ judged kept n b
+    still-open-at h f o = judged-as kept n b (still-open (omega arith)) (passes h f ∙ o)
 
     pub whole-at : {k : ℕ} → n ≡ i → test with ≡ true → next with ≡ found.Whole k → Whole ≡ judged kept n b
     whole-at h f o = judged-as kept n b (still-open (omega arith)) (passes h f ∙ o)
@@ -174,9 +174,9 @@ module _ (kept : List ℕ) (n b : ℕ) (size : length kept ≡ 211) (fits : n �
   unfolding recognised recognisedBody
   at-first z a = refl
 
-  pub start-right : n ≡ 0 → b ≡ 0x68 → Grows ≡ judged kept n b
+  pub start-right : n ≡ 0 → b ≡ 0x68 → StillOpen ≡ judged kept n b
   start-right h e =
-      grows-at 0 start-test fromEighth at-first h (eq-eqb _ _ (came-at 0 h ∙ e)) (stage-open with 7 (eqb (getD with 7 0) 0x68) (fromLength with) (rw longer (omega arith)))
+      still-open-at 0 start-test fromEighth at-first h (eq-eqb _ _ (came-at 0 h ∙ e)) (stage-open with 7 (eqb (getD with 7 0) 0x68) (fromLength with) (rw longer (omega arith)))
 
   pub start-wrong : n ≡ 0 → (b ≡ 0x68 → ⊥) → Skips ≡ judged kept n b
   start-wrong h e = skips-at 0 start-test fromEighth at-first h h (ne-eqb _ _ (λ g. e (sym (came-at 0 h) ∙ g)))
@@ -192,16 +192,16 @@ module _ (kept : List ℕ) (n b : ℕ) (size : length kept ≡ 211) (fits : n �
     at-eighth : (z : List ℕ) → Agrees kept n z → recognised z ≡ fromEighth z
     at-eighth z a = past-first kept n z a some first
 
-    pub address-comes : n < 7 → Grows ≡ judged kept n b
-    address-comes h = grows-before 7 second-test fromLength at-eighth h
+    pub address-comes : n < 7 → StillOpen ≡ judged kept n b
+    address-comes h = still-open-before 7 second-test fromLength at-eighth h
 
-    pub second-right : n ≡ 7 → b ≡ 0x68 → Grows ≡ judged kept n b
+    pub second-right : n ≡ 7 → b ≡ 0x68 → StillOpen ≡ judged kept n b
     second-right h e =
-        grows-at 7 second-test fromLength at-eighth h (eq-eqb _ _ (came-at 7 h ∙ e))
+        still-open-at 7 second-test fromLength at-eighth h (eq-eqb _ _ (came-at 7 h ∙ e))
         (stage-open with 9 (leb (lengthOf with) 200) (recognisedEnd with (10 + lengthOf with)) (rw longer (omega arith)))
 
-    pub second-wrong : n ≡ 7 → (b ≡ 0x68 → ⊥) → Falls ≡ judged kept n b
-    second-wrong h e = falls-at 7 second-test fromLength at-eighth some h (ne-eqb _ _ (λ g. e (sym (came-at 7 h) ∙ g)))
+    pub second-wrong : n ≡ 7 → (b ≡ 0x68 → ⊥) → BeginsNone ≡ judged kept n b
+    second-wrong h e = begins-none-at 7 second-test fromLength at-eighth some h (ne-eqb _ _ (λ g. e (sym (came-at 7 h) ∙ g)))
 
     pub eighth-wrong : 7 < n → (getD kept 7 0 ≡ 0x68 → ⊥) → Bad ≡ judged kept n b
     eighth-wrong h e = bad-at 7 second-test fromLength at-eighth h (ne-eqb _ _ (λ g. e (sym (old .at 7 h) ∙ g)))
@@ -217,21 +217,21 @@ module _ (kept : List ℕ) (n b : ℕ) (size : length kept ≡ 211) (fits : n �
     at-length : (z : List ℕ) → Agrees kept n z → recognised z ≡ fromLength z
     at-length z a = past-eighth kept n z a more first eighth
 
-    pub control-comes : n < 9 → Grows ≡ judged kept n b
-    control-comes h = grows-before 9 length-test fromBody at-length h
+    pub control-comes : n < 9 → StillOpen ≡ judged kept n b
+    control-comes h = still-open-before 9 length-test fromBody at-length h
 
-    pub length-right : n ≡ 9 → b ≤ 200 → Grows ≡ judged kept n b
+    pub length-right : n ≡ 9 → b ≤ 200 → StillOpen ≡ judged kept n b
     unfolding lengthOf recognisedEnd
     length-right h k =
         let e : getD with 9 0 ≡ b = came-at 9 h in
-        grows-at 9 length-test fromBody at-length h (le-leb (getD with 9 0) 200 (omega arith))
+        still-open-at 9 length-test fromBody at-length h (le-leb (getD with 9 0) 200 (omega arith))
         (stage-open with (10 + getD with 9 0) (eqb (getD with (10 + getD with 9 0) 0) (checksumOf (take (10 + getD with 9 0) with)))
         (fromLast with (10 + getD with 9 0)) (rw longer (omega arith)))
 
-    pub length-wrong : n ≡ 9 → 200 < b → Falls ≡ judged kept n b
+    pub length-wrong : n ≡ 9 → 200 < b → BeginsNone ≡ judged kept n b
     unfolding lengthOf
     length-wrong h k =
-        let e : getD with 9 0 ≡ b = came-at 9 h in falls-at 9 length-test fromBody at-length (omega arith) h (lt-leb (getD with 9 0) 200 (omega arith))
+        let e : getD with 9 0 ≡ b = came-at 9 h in begins-none-at 9 length-test fromBody at-length (omega arith) h (lt-leb (getD with 9 0) 200 (omega arith))
 
     pub ninth-wrong : 9 < n → 200 < getD kept 9 0 → Bad ≡ judged kept n b
     unfolding lengthOf
@@ -239,9 +239,9 @@ module _ (kept : List ℕ) (n b : ℕ) (size : length kept ≡ 211) (fits : n �
         let e : getD (take n kept) 9 0 ≡ getD kept 9 0 = old .at 9 h in
         bad-at 9 length-test fromBody at-length h (lt-leb (getD (take n kept) 9 0) 200 (omega arith))
 
-    pub data-comes : 9 < n → getD kept 9 0 ≤ 200 → n < 10 + getD kept 9 0 → Grows ≡ judged kept n b
+    pub data-comes : 9 < n → getD kept 9 0 ≤ 200 → n < 10 + getD kept 9 0 → StillOpen ≡ judged kept n b
     data-comes h k l =
-        grows-before (10 + getD kept 9 0) (λ z. eqb (getD z (10 + getD kept 9 0) 0) (checksumOf (take (10 + getD kept 9 0) z)))
+        still-open-before (10 + getD kept 9 0) (λ z. eqb (getD z (10 + getD kept 9 0) 0) (checksumOf (take (10 + getD kept 9 0) z)))
         (λ z. fromLast z (10 + getD kept 9 0)) (λ z a. past-length kept n z a h first eighth k) l
 
   -- The verdicts where all data bytes are kept, and m is the place of the checksum.
@@ -263,12 +263,12 @@ module _ (kept : List ℕ) (n b : ℕ) (size : length kept ≡ 211) (fits : n �
     sum-same : checksumOf (take m with) ≡ checksumOf (take m kept)
     sum-same = ap checksumOf (new .front m all)
 
-    pub sum-right : n ≡ m → b ≡ checksumOf (take m kept) → Grows ≡ judged kept n b
+    pub sum-right : n ≡ m → b ≡ checksumOf (take m kept) → StillOpen ≡ judged kept n b
     sum-right h e =
-        grows-at m sum-test (λ z. fromLast z m) at-sum h (eq-eqb _ _ (came-at m h ∙ e ∙ sym sum-same)) (stage-open with (m + 1) (last-test with) (found.Whole (m + 2)) (rw longer (omega arith)))
+        still-open-at m sum-test (λ z. fromLast z m) at-sum h (eq-eqb _ _ (came-at m h ∙ e ∙ sym sum-same)) (stage-open with (m + 1) (last-test with) (found.Whole (m + 2)) (rw longer (omega arith)))
 
-    pub sum-wrong : n ≡ m → (b ≡ checksumOf (take m kept) → ⊥) → Falls ≡ judged kept n b
-    sum-wrong h e = falls-at m sum-test (λ z. fromLast z m) at-sum some h (ne-eqb _ _ (λ f. e (sym (came-at m h) ∙ f ∙ sum-same)))
+    pub sum-wrong : n ≡ m → (b ≡ checksumOf (take m kept) → ⊥) → BeginsNone ≡ judged kept n b
+    sum-wrong h e = begins-none-at m sum-test (λ z. fromLast z m) at-sum some h (ne-eqb _ _ (λ f. e (sym (came-at m h) ∙ f ∙ sum-same)))
 
     pub kept-wrong : m < n → (getD kept m 0 ≡ checksumOf (take m kept) → ⊥) → Bad ≡ judged kept n b
     kept-wrong h e =
@@ -281,9 +281,9 @@ module _ (kept : List ℕ) (n b : ℕ) (size : length kept ≡ 211) (fits : n �
     last-right h e f =
         whole-at (m + 1) last-test (λ z. found.Whole (m + 2)) (at-last (omega arith) e) h (eq-eqb _ _ (came-at (m + 1) h ∙ f)) refl
 
-    pub last-wrong : n ≡ m + 1 → getD kept m 0 ≡ checksumOf (take m kept) → (b ≡ 0x16 → ⊥) → Falls ≡ judged kept n b
+    pub last-wrong : n ≡ m + 1 → getD kept m 0 ≡ checksumOf (take m kept) → (b ≡ 0x16 → ⊥) → BeginsNone ≡ judged kept n b
     last-wrong h e f =
-        falls-at (m + 1) last-test (λ z. found.Whole (m + 2)) (at-last (omega arith) e) some h (ne-eqb _ _ (λ g. f (sym (came-at (m + 1) h) ∙ g)))
+        begins-none-at (m + 1) last-test (λ z. found.Whole (m + 2)) (at-last (omega arith) e) some h (ne-eqb _ _ (λ g. f (sym (came-at (m + 1) h) ∙ g)))
 
     -- Where more than the checksum is kept, the kept bytes are whole or begin nothing.
     pub too-many : m + 1 < n → Bad ≡ judged kept n b

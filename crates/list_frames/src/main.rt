@@ -3,6 +3,7 @@
 ghost use Prim.Native.Nat.{_≤_, _<_};
 ghost use mathlib.Core.Path.{_≡_};
 ghost use lib.ListN.{length};
+ghost use Rattle.line_verdict.specs.Verdict.{mostKept};
 use libc::STDERR_FILENO;
 use libc::STDIN_FILENO;
 use libc::STDOUT_FILENO;
@@ -48,7 +49,7 @@ fn list_bytes(
     text: &mut [u8],
 ) -> Progress
     requires { ⌜ n ≤ length (now block) ⌝ }
-    ensures { λ r. ⌜ r .kept ≤ 211 ⌝ }
+    ensures { λ r. ⌜ r .kept ≤ mostKept ⌝ }
 {
     let listed = listing::block::list_block(&block[..n], ended, frames, text);
     let BlockListed::Listed { text: used, rest } = listed else {
@@ -66,8 +67,8 @@ fn list_bytes(
 // Reads behind the rest of the block before, where there is always room, and lists; the end of the input is a silence. A read
 // that a signal interrupts is tried again.
 fn turn(kept: usize, block: &mut [u8], frames: &mut [u8], text: &mut [u8]) -> Progress
-    requires { ⌜ (kept ≤ 211) × (211 < length (now block)) ⌝ }
-    ensures { λ r. ⌜ r .kept ≤ 211 ⌝ }
+    requires { ⌜ (kept ≤ mostKept) × (mostKept < length (now block)) ⌝ }
+    ensures { λ r. ⌜ r .kept ≤ mostKept ⌝ }
 {
     let got = libc::read(STDIN_FILENO, &mut block[kept..]);
     if got == 0 {
@@ -88,7 +89,7 @@ fn turn(kept: usize, block: &mut [u8], frames: &mut [u8], text: &mut [u8]) -> Pr
 // Lists the frames of the whole input. A proved loop has to end, and nothing says that the input does: so the loop counts
 // its turns down, from a number that no run uses up.
 fn list_input(block: &mut [u8], frames: &mut [u8], text: &mut [u8])
-    requires { ⌜ 211 < length (now block) ⌝ }
+    requires { ⌜ mostKept < length (now block) ⌝ }
 {
     let mut kept = 0;
     let mut turns = u64::MAX;

@@ -4,10 +4,11 @@ use mathlib.Core.List.{List, map}
 use mathlib.Core.Bool.{Bool}
 use lib.ListN.{length}
 use lib.Dec.{leb}
-use Rattle.laws.specs.Memory.{over, pick}
+use Rattle.laws.specs.Memory.{over}
+use Rattle.laws.specs.Test.{pick}
 use Rattle.frame.specs.Refusals.{shortMemory}
 use Rattle.line_terms.specs.Places.{Found, joined}
-use Rattle.line_terms.specs.Scan.{Reading}
+use Rattle.line_terms.specs.Scan.{LineReading}
 use Rattle.recording.specs.Block.{blockReading}
 use Rattle.listing.specs.Lines.{linesOf}
 use Rattle.listing.specs.declared.block.BlockListed.{BlockListed}
@@ -28,7 +29,7 @@ blockOutcome answer frames text = record { answer = answer; frames = frames; tex
 
 -- The frames of a reading of so many bytes stand end to end in the one memory and their lines in the other; the rest that it keeps are
 -- the last of the bytes.
-unfoldable pub readingListed : Reading → ℕ → List ℕ → List ℕ → BlockOutcome
+unfoldable pub readingListed : LineReading → ℕ → List ℕ → List ℕ → BlockOutcome
 readingListed d size frames text =
     blockOutcome (Listed (length (linesOf (framesOf (d .frames)))) (size - length (d .kept)))
     (over (joined (d .frames)) frames)

@@ -9,14 +9,15 @@ use lib.ListN.{length, take}
 use lib.Dec.{leb}
 use borrow.Author.Tests.{le-leb, lt-leb, leb-true}
 use Rattle.laws.specs.Memory.{Outcome, outcome, over}
-use Rattle.laws.specs.MemoryLaws.{over-length, pick-cases}
+use Rattle.laws.specs.MemoryLaws.{over-length}
+use Rattle.laws.specs.TestLaws.{pick-cases}
 use Rattle.frame.specs.EndToEnd.{EndToEnd, cutFrom, cut}
 use Rattle.frame.specs.EndToEndLaws.{cut-next}
 use Rattle.line_terms.specs.Places.{Found, joined}
 use Rattle.line.specs.Drain.{symbols, readingFrom}
 use Rattle.line_terms.specs.FoundFrames.{AllFrames, scan-frames, joined-end-to-end}
 use Rattle.recording.specs.Block.{blockReading, blockRead}
-use Rattle.recording.specs.BlockLaws.{Within, block-few, rest-most, Delivers, read-declines, delivers-front}
+use Rattle.recording.specs.BlockLaws.{Within, block-few, rest-most, BlockDelivers, read-declines, delivers-front}
 use Rattle.recording.specs.declared.BlockAnswer.the-variants as read
 use Rattle.listing.specs.Lines.{linesOf}
 use Rattle.listing.specs.LinesLaws.{lines-twice}
@@ -70,7 +71,7 @@ unfolding blockListed
 reading-listed block ended frames text fits roomy = rw (le-leb _ _ fits, le-leb _ _ roomy)
 
 -- A listing that is not refused.
-module _ {block m₀ m : List ℕ} {ended : Bool} {bytes rest : ℕ} (d : Delivers block ended m₀ m bytes rest) where
+module _ {block m₀ m : List ℕ} {ended : Bool} {bytes rest : ℕ} (d : BlockDelivers block ended m₀ m bytes rest) where
   module _ (text : List ℕ) (fits : 2 * length block ≤ length text) where
     -- Their lines can be written.
     pub delivers-asked : EndToEnd (take bytes m) × (2 * length (take bytes m) ≤ length text)

@@ -1,16 +1,17 @@
 -- Laws of the lines of several frames: their length, the lines of frames joined, and how far a loop that writes them has come.
-use Prim.Native.Nat.{ℕ, _+_, _-_, _*_, _≤_, _<_}
+use Prim.Native.Nat.{ℕ, _+_, _-_, _*_, _≤_}
 use mathlib.Core.Path.{_≡_, refl, ap, sym, _∙_}
 use mathlib.Core.List.{List, [], _∷_, _++_, append-nil, append-assoc}
 use native.Mathlib.Omega.{arith}
-use lib.ListN.{length, take, drop, getD, length-append, length-drop, drop-of-length-le}
-use lib.Seq.{append-snoc, take-all, length-take-le, getD-drop, drop-drop}
+use lib.ListN.{length, take, drop, length-append, length-drop, drop-of-length-le}
+use lib.Seq.{append-snoc, length-take-le}
+use borrow.Rule.Slice.PartAt.{part-to-end}
 use Rattle.laws.specs.Memory.{outcome, over}
 use Rattle.laws.specs.MemoryLaws.{over-length, lent-over}
-use Rattle.frame.specs.Frame.{Frame, lengthOf}
+use Rattle.frame.specs.Frame.{lengthOf}
 use Rattle.frame.specs.RecognitionLaws.{frame-spans, frame-one}
 use Rattle.frame.specs.EndToEnd.{EndToEnd, none, next, cutFrom, cut}
-use Rattle.frame.specs.EndToEndLaws.{Fronted, cut-next, end-to-end-front}
+use Rattle.frame.specs.EndToEndLaws.{NextFrame, cut-next}
 use Rattle.listing.specs.Text.{Spans, textOf, textLength}
 use Rattle.listing.specs.TextLaws.{text-length, text-twice}
 use Rattle.listing.specs.Lines.{linesOf}
@@ -62,76 +63,49 @@ lining-start frames m w =
       size = refl;
     }
 
--- A turn, at a place where a frame is left.
-module _ {frames m₀ m : List ℕ} {at used : ℕ} (d : Lining frames m₀ m at used) (h : at < length frames) where
-  -- The frame that is left first.
-  front : Fronted (drop at frames)
-  front = end-to-end-front (d .left) (rw length-drop (omega arith))
+-- A turn, at the next frame.
+module _ {frames m₀ m : List ℕ} {at used end : ℕ} (d : Lining frames m₀ m at used) (frame : NextFrame frames at end) where
+  -- Its bytes, as they are lent, are as many as lie between the places.
+  part-size : length (take (end - at) (drop at frames)) ≡ end - at
+  part-size = length-take-le (end - at) (drop at frames) (omega (arith, length-drop at frames, frame .within))
 
-  -- Its data length, as it is read.
-  says : lengthOf (drop at frames) ≡ getD frames (at + 9) 0
-  unfolding lengthOf
-  says = getD-drop at frames 9 0
+  -- Its line is at most twice as long.
+  part-twice : length (textOf (take (end - at) (drop at frames))) ≤ 2 * (end - at)
+  part-twice = rw part-size at (text-twice _ (frame-one _ (frame .frame)))
 
-  -- It ends within the bytes.
-  pub lining-within : at + 12 + getD frames (at + 9) 0 ≤ length frames
-  lining-within = omega (arith, front .within, length-drop at frames, says)
-
-  -- Its bytes, as they are lent.
-  size : at + 12 + getD frames (at + 9) 0 - at ≡ 12 + lengthOf (drop at frames)
-  size = omega (arith, says)
-
-  part-frame : Frame (take (at + 12 + getD frames (at + 9) 0 - at) (drop at frames))
-  part-frame = rw size (front .frame)
-
-  part-length : length (take (at + 12 + getD frames (at + 9) 0 - at) (drop at frames)) ≡ 12 + getD frames (at + 9) 0
-  part-length =
-      length-take-le (at + 12 + getD frames (at + 9) 0 - at) (drop at frames) (omega (arith, size, front .within)) ∙ omega arith
-
-  part-says : lengthOf (take (at + 12 + getD frames (at + 9) 0 - at) (drop at frames)) ≡ getD frames (at + 9) 0
-  part-says = omega (arith, frame-spans part-frame, part-length)
-
-  text-says : length (textOf (take (at + 12 + getD frames (at + 9) 0 - at) (drop at frames))) ≡ textLength (getD frames (at + 9) 0)
-  text-says = text-length _ (frame-spans part-frame) ∙ ap textLength part-says
-
-  -- Its line fits behind those written before.
+  -- The line fits behind those written before.
   module _ (roomy : 2 * length frames ≤ length m₀) where
-    pub lining-fits : used + textLength (getD frames (at + 9) 0) ≤ length m₀
-    lining-fits = omega (arith, text-says, text-twice _ (frame-one _ part-frame), part-length, lining-within, d .room)
+    pub lining-fits : used + length (textOf (take (end - at) (drop at frames))) ≤ length m₀
+    lining-fits = omega (arith, part-twice, frame .within, frame .later, d .room)
 
     -- It can be written there.
     pub lining-asked :
-        Spans (take (at + 12 + getD frames (at + 9) 0 - at) (drop at frames))
-        × (textLength (lengthOf (take (at + 12 + getD frames (at + 9) 0 - at) (drop at frames))) ≤ length (take (length m - used) (drop used m)))
+        Spans (take (end - at) (drop at frames))
+        × (textLength (lengthOf (take (end - at) (drop at frames))) ≤ length (take (length m - used) (drop used m)))
     lining-asked =
-        let whole : take (length m - used) (drop used m) ≡ drop used m = take-all (length m - used) (drop used m) (omega (arith, length-drop used m)) in
-        (frame-spans part-frame, rw (part-says, whole, length-drop) (omega (arith, lining-fits, d .size)))
+        let spans : Spans (take (end - at) (drop at frames)) = frame-spans (frame .frame) in
+        (spans, rw (part-to-end m used, length-drop) (omega (arith, text-length _ spans, lining-fits, d .size)))
 
     -- Written there, it is one line more.
     pub lining-next : {y : List ℕ} {n : ℕ} →
-        y ≡ over (textOf (take (at + 12 + getD frames (at + 9) 0 - at) (drop at frames))) (take (length m - used) (drop used m)) →
-        n ≡ textLength (getD frames (at + 9) 0) →
-        Lining frames m₀ (take used m ++ (y ++ drop (length m - used) (drop used m))) (at + 12 + getD frames (at + 9) 0) (used + n)
+        y ≡ over (textOf (take (end - at) (drop at frames))) (take (length m - used) (drop used m)) →
+        n ≡ length (textOf (take (end - at) (drop at frames))) →
+        Lining frames m₀ (take used m ++ (y ++ drop (length m - used) (drop used m))) end (used + n)
     lining-next {y} {n} written long =
-        let f : List ℕ = take (at + 12 + getD frames (at + 9) 0 - at) (drop at frames) in
+        let f : List ℕ = take (end - at) (drop at frames) in
         let fs : List (List ℕ) = d .listed ++ (f ∷ []) in
         let more : linesOf fs ≡ linesOf (d .listed) ++ textOf f = lines-more (d .listed) f in
-        let fits : used + length (textOf f) ≤ length m₀ = omega (arith, text-says, lining-fits) in
         let now : take used m ++ (y ++ drop (length m - used) (drop used m)) ≡ over (linesOf fs) m₀ =
-        rw (written, d .memory, more) (lent-over used (linesOf (d .listed)) (textOf f) m₀ (sym (d .bytes)) fits) in
-        let all : length (linesOf fs) ≡ used + n = rw (more, length-append, long) (omega (arith, text-says, d .bytes)) in
-        let on : at + (12 + lengthOf (drop at frames)) ≡ at + 12 + getD frames (at + 9) 0 = omega (arith, says) in
-        let rest : drop (12 + lengthOf (drop at frames)) (drop at frames) ≡ drop (at + 12 + getD frames (at + 9) 0) frames =
-        drop-drop (12 + lengthOf (drop at frames)) at frames ∙ ap (λ (k : ℕ). drop k frames) on in
-        let cuts : cut (drop at frames) ≡ f ∷ cut (drop (at + 12 + getD frames (at + 9) 0) frames) = rw (size, ← rest) (front .cuts) in
+        rw (written, d .memory, more) (lent-over used (linesOf (d .listed)) (textOf f) m₀ (sym (d .bytes)) lining-fits) in
+        let all : length (linesOf fs) ≡ used + n = rw (more, length-append, long) (omega (arith, d .bytes)) in
         record {
           listed = fs;
-          left = rw rest at (front .rest);
-          split = d .split ∙ ap (λ (l : List (List ℕ)). d .listed ++ l) cuts ∙ sym (append-snoc (d .listed) f _);
-          within = lining-within;
+          left = frame .rest;
+          split = d .split ∙ ap (λ (l : List (List ℕ)). d .listed ++ l) (frame .cuts) ∙ sym (append-snoc (d .listed) f _);
+          within = frame .within;
           memory = now;
           bytes = sym all;
-          room = omega (arith, long, text-says, text-twice f (frame-one f part-frame), part-length, d .room);
+          room = omega (arith, long, part-twice, frame .later, d .room);
           size = ap length now ∙ over-length (linesOf fs) m₀ (omega (arith, all, long, lining-fits));
         }
 

@@ -15,7 +15,7 @@ use Rattle.recording.specs.Block.{blockRead}
 use Rattle.recording.specs.RestLaws.{rest-there}
 use Rattle.recording.specs.Certain.{Due, due-frames}
 use Rattle.recording.specs.Blocks as read
-use Rattle.recording.specs.Blocks.{Block, IsRead, AreRead, lineOf, hasEnded, deliveredBy, deliveredBytes, readingOf, ReadsTheLine, block-rest, block-delivers, blocks-due}
+use Rattle.recording.specs.Blocks.{Block, IsRead, AreRead, lineOf, hasEnded, deliveredBy, deliveredBytes, readingBehind, ReadsTheLine, block-rest, block-delivers, blocks-due}
 use Rattle.listing.specs.Lines.{linesOf}
 use Rattle.listing.specs.LinesLaws.{lines-append}
 use Rattle.listing.specs.Block.{framesOf, BlockOutcome, blockOutcome, readingListed, blockListed}
@@ -99,12 +99,12 @@ module _ {rest : List ℕ} {b : ListedBlock} (h : IsListed rest b) where
 
   -- What its listing comes to.
   answered : blockOutcome (b .answer) (b .leftFrames) (b .leftText) ≡
-      readingListed (readingOf rest (reading rest b)) (length (rest ++ b .new)) (b .lentFrames) (b .lentText)
+      readingListed (readingBehind rest (reading rest b)) (length (rest ++ b .new)) (b .lentFrames) (b .lentText)
   answered = h .call ∙ reading-listed (rest ++ b .new) (b .ended) (b .lentFrames) (b .lentText) (h .text) (h .frames)
 
   -- What it answers.
   says : b .answer ≡
-      Listed (length (linesOf (framesOf (readingOf rest (reading rest b) .frames)))) (length (rest ++ b .new) - length (readingOf rest (reading rest b) .kept))
+      Listed (length (linesOf (framesOf (readingBehind rest (reading rest b) .frames)))) (length (rest ++ b .new) - length (readingBehind rest (reading rest b) .kept))
   unfolding readingListed
   says = ap (λ (o : BlockOutcome). o .answer) answered
 
@@ -120,7 +120,7 @@ module _ {rest : List ℕ} {b : ListedBlock} (h : IsListed rest b) where
   block-text : textBy (b .answer) (b .leftText) ≡ linesOf (cut (deliveredBy (reading rest b .answer) (reading rest b .left)))
   unfolding readingListed
   block-text =
-      let lines : List ℕ = linesOf (framesOf (readingOf rest (reading rest b) .frames)) in
+      let lines : List ℕ = linesOf (framesOf (readingBehind rest (reading rest b) .frames)) in
       let m : b .leftText ≡ over lines (b .lentText) = ap (λ (o : BlockOutcome). o .text) answered in
       rw (says, m, block-delivers listed-read, block-cut) (take-append-seam lines _)
 

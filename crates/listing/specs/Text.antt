@@ -4,7 +4,8 @@ use mathlib.Core.Path.{_≡_}
 use mathlib.Core.List.{List, [], _∷_, _++_, reverse}
 use lib.ListN.{length}
 use lib.Dec.{leb, eqb}
-use Rattle.laws.specs.Memory.{Outcome, outcome, over, pick}
+use Rattle.laws.specs.Memory.{Outcome, outcome, over}
+use Rattle.laws.specs.Test.{pick}
 use Rattle.frame.specs.Frame.{addressOf, controlOf, lengthOf, dataOf}
 use Rattle.frame.specs.Recognition.{exactlyOne}
 use Rattle.listing.specs.declared.Listed.{Listed}

@@ -8,7 +8,8 @@ use lib.ListN.{length, take, drop, set, length-append, length-map, length-drop, 
 use lib.Seq.{sets, length-take-le}
 use lib.Dec.{eqb}
 use borrow.Author.Tests.{eq-eqb, ne-eqb}
-use Rattle.laws.specs.Memory.{over, pick}
+use Rattle.laws.specs.Memory.{over}
+use Rattle.laws.specs.Test.{pick}
 use Rattle.laws.specs.MemoryLaws.{run-from}
 use Rattle.frame.specs.Frame.{addressOf, controlOf, lengthOf, fieldOf, dataOf}
 use Rattle.frame.specs.Recognition.{exactlyOne}
@@ -20,7 +21,11 @@ use Rattle.listing.specs.DigitLaws.{run-on, hex-length}
 pub frame-spans : (bytes : List ℕ) → exactlyOne bytes ≡ true → Spans bytes
 frame-spans bytes e = spans (one-frame bytes e)
 
--- The text's length where there are data.
+-- The text's length where there are no data, and where there are.
+pub length-none : (l : ℕ) → l ≡ 0 → textLength l ≡ 16
+unfolding textLength
+length-none l none = simp (eq-eqb l 0 none)
+
 pub length-some : (l : ℕ) → (l ≡ 0 → ⊥) → textLength l ≡ 17 + 2 * l
 unfolding textLength
 length-some l some = simp (ne-eqb l 0 some)

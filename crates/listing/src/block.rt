@@ -1,8 +1,8 @@
 // The listing of a whole block of a recorded line: document 01, "The listing program". What the blocks of a line list in all
 // are the lines of exactly the frames certain after it, or taken in it where it has ended (`blocks-listed` in
 // specs/ListedBlocks.antt).
-use crate::text_length;
 use crate::write_line;
+use frame::delivery::next_end;
 use frame::refusal::SHORT_MEMORY;
 ghost use mathlib.Core.Path.{_≡_};
 ghost use Prim.Native.Nat.{_*_, _≤_};
@@ -30,10 +30,8 @@ fn write_lines(frames: &[u8], out: &mut [u8]) -> usize
     let mut at = 0;
     let mut used = 0;
     while at < frames.len() {
-        let count = frames[at + 9];
-        let next = at + 12 + count as usize;
-        write_line(&frames[at..next], &mut out[used..]);
-        used += text_length(count);
+        let next = next_end(frames, at);
+        used += write_line(&frames[at..next], &mut out[used..]);
         at = next;
     }
     used

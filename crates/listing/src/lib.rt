@@ -64,8 +64,8 @@ fn write_data(field: &[u8], start: usize, out: &mut [u8])
     let mut at = start;
     while i < field.len() {
         let sent = field[i];
-        let meant = frame_parts::unmask(sent);
-        write_byte(meant, at, out);
+        let payload = frame_parts::unmask(sent);
+        write_byte(payload, at, out);
         at += 2;
         i += 1;
     }
@@ -81,24 +81,27 @@ fn write_head(frame: &[u8], out: &mut [u8])
     write_byte(frame[8], 13, out);
 }
 
-// What stands behind the control code: a blank and the data where there are any, and the newline.
-fn write_tail(frame: &[u8], out: &mut [u8])
+// What stands behind the control code: a blank and the data where there are any, and the newline. It returns the length of
+// the whole text.
+fn write_tail(frame: &[u8], out: &mut [u8]) -> usize
     requires { ⌜ Spans (now frame) × (textLength (lengthOf (now frame)) ≤ length (now out)) ⌝ }
-    ensures { λ _. ⌜ now (out .exit) ≡ sets (now (out .entry)) 15 (tailOf (now (frame .entry)) ++ (0x0A ∷ [])) ⌝ }
+    ensures { λ r. ⌜ (r ≡ textLength (lengthOf (now (frame .entry)))) × (now (out .exit) ≡ sets (now (out .entry)) 15 (tailOf (now (frame .entry)) ++ (0x0A ∷ []))) ⌝ }
 {
     let count = frame[9] as usize;
     if count == 0 {
         out[15] = b'\n';
-        return;
+        return 16;
     }
     let end = 10 + count;
     out[15] = b' ';
     write_data(&frame[10..end], 16, out);
-    out[16 + 2 * count] = b'\n';
+    let last = 16 + 2 * count;
+    out[last] = b'\n';
+    last + 1
 }
 
 // The length of the text of a frame with so many data bytes, its newline among it.
-pub(crate) fn text_length(data_length: u8) -> usize
+fn text_length(data_length: u8) -> usize
     ensures { λ r. ⌜ r ≡ textLength «data_length» ⌝ }
 {
     if data_length == 0 {
@@ -107,13 +110,13 @@ pub(crate) fn text_length(data_length: u8) -> usize
     17 + 2 * data_length as usize
 }
 
-// Writes the line of a frame, with its newline, to the front of the output buffer.
-pub(crate) fn write_line(frame: &[u8], out: &mut [u8])
+// Writes the line of a frame, with its newline, to the front of the output buffer, and returns how many bytes it has.
+pub(crate) fn write_line(frame: &[u8], out: &mut [u8]) -> usize
     requires { ⌜ Spans (now frame) × (textLength (lengthOf (now frame)) ≤ length (now out)) ⌝ }
-    ensures { λ _. ⌜ now (out .exit) ≡ over (textOf (now (frame .entry))) (now (out .entry)) ⌝ }
+    ensures { λ r. ⌜ (r ≡ length (textOf (now (frame .entry)))) × (now (out .exit) ≡ over (textOf (now (frame .entry))) (now (out .entry))) ⌝ }
 {
     write_head(frame, out);
-    write_tail(frame, out);
+    write_tail(frame, out)
 }
 
 // Lists bytes that have to be exactly one frame: writes its line to the front of the output buffer.

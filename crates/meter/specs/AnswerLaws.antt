@@ -15,12 +15,13 @@ use Rattle.frame.specs.Recognition.{exactlyOne}
 use Rattle.frame.specs.RecognitionLaws.{one-frame, frame-one}
 use Rattle.laws.specs.ChecksLaws.{AllHold, all-pass, pass-or-fail}
 use Rattle.item_command.specs.Reply.{replyTo}
-use Rattle.laws.specs.MemoryLaws.{pick-cases}
+use Rattle.laws.specs.TestLaws.{pick-cases}
 use Rattle.energy.specs.Energies.{Rows}
-use Rattle.meter.specs.Meter.{withinRanges}
+use Rattle.meter.specs.Meter.{untouched, withinRanges}
 use Rattle.meter.specs.Ranges.{InRanges, within-ranges}
-use Rattle.item_command.specs.Command.{controlFor, addressed}
-use Rattle.meter.specs.Answer.{Treatment, silent, replies, failed, replyData, meterAfter, carriedOut, forMeter, treated, refused, delivered, answered}
+use Rattle.item_command.specs.Command.{controlFor}
+use Rattle.item_command.specs.Addressee.{addressed}
+use Rattle.meter.specs.Answer.{Treatment, silent, replies, failed, replyData, meterAfter, carriedOut, forMeter, treated, refused, delivered, answered, valueAsked}
 use Rattle.meter_decision.specs.Decision.{Failure, errorByte, silence, checksOf}
 use Rattle.meter_decision.specs.DecisionLaws.{failsSilently, FailsAs, checks-fail}
 use Rattle.item_command.specs.CommandLaws.{command-known, asks, Asks, known, unknown, same-control}
@@ -43,7 +44,7 @@ module _ (bytes : List ℕ) (m : Meter) (forward reverse : Rows) where
   -- What a frame comes to: it is not for this meter, or its command is carried out.
   pub treated-cases : (P : Treatment → Type 0) → P (silent notForThisMeter)
       → ((command : Command) → controlOf bytes ≡ controlFor command → addressed command (addressOf bytes) (m .address) ≡ true
-      → P (carriedOut command (dataOf bytes) m forward reverse))
+      → P (carriedOut command (dataOf bytes) m (valueAsked (dataOf bytes) m forward reverse)))
       → P (treated bytes m forward reverse)
   unfolding treated
   treated-cases P none some = go (asks (controlOf bytes))
@@ -73,7 +74,7 @@ module _ (bytes : List ℕ) (m : Meter) (forward reverse : Rows) where
     abbrev pub normal : Command → Outcome Answered
     normal command =
         delivered
-        (replies (replyTo (controlFor command) false) (replyData command (dataOf bytes) m forward reverse) (meterAfter command (dataOf bytes) m))
+        (replies (replyTo (controlFor command) false) (replyData command (dataOf bytes) m (valueAsked (dataOf bytes) m forward reverse)) (meterAfter command (dataOf bytes) m))
         m memory
 
     pub answered-normal : (command : Command) → Reaches command → AllHold (checksOf command (dataOf bytes) (m .key) (m .passwords))
@@ -88,7 +89,7 @@ module _ (bytes : List ℕ) (m : Meter) (forward reverse : Rows) where
     pub data Answers : Type 0 where
       refuses : (n : ℕ) → (InRanges m forward reverse → n < outOfRange) → answered bytes m forward reverse memory ≡ refused n m memory → Answers
       errs : (command : Command) (e : ℕ) → Reaches command → failsSilently command ≡ false
-          → answered bytes m forward reverse memory ≡ delivered (replies (replyTo (controlFor command) true) (e ∷ []) m) m memory → Answers
+          → answered bytes m forward reverse memory ≡ delivered (replies (replyTo (controlFor command) true) (e ∷ []) (untouched m)) m memory → Answers
       carries : (command : Command) → Reaches command → AllHold (checksOf command (dataOf bytes) (m .key) (m .passwords))
           → answered bytes m forward reverse memory ≡ normal command → Answers
 
@@ -115,7 +116,7 @@ module _ (bytes : List ℕ) (m : Meter) (forward reverse : Rows) where
         P : Outcome Answered → Type 0
         P o = answered bytes m forward reverse memory ≡ o → Answers
 
-        carried : (command : Command) → Reaches command → P (delivered (carriedOut command (dataOf bytes) m forward reverse) m memory)
+        carried : (command : Command) → Reaches command → P (delivered (carriedOut command (dataOf bytes) m (valueAsked (dataOf bytes) m forward reverse)) m memory)
         carried command w =
             pass-or-fail (failed command m) _ (λ t. P (delivered t m memory)) (FailsAs command) (checksOf command (dataOf bytes) (m .key) (m .passwords))
             (checks-fail command (dataOf bytes) (m .key) (m .passwords)) (carries command w) fail
@@ -129,11 +130,11 @@ pub not-replied : {k n : ℕ} → Refused k ≡ Replied n → ⊥
 not-replied e = let z : _≡_ {A = ℕ} 0 1 = cc in omega arith
 
 -- The control code of a reply.
-pub reply-control : (bytes : List ℕ) (m : Meter) (forward reverse : Rows) (memory : List ℕ) (control : ℕ) (meant : List ℕ) (after : Meter)
-    → length (after .address) ≡ 6 → answered bytes m forward reverse memory ≡ delivered (replies control meant after) m memory
+pub reply-control : (bytes : List ℕ) (m : Meter) (forward reverse : Rows) (memory : List ℕ) (control : ℕ) (payload : List ℕ) (after : Meter)
+    → length (after .address) ≡ 6 → answered bytes m forward reverse memory ≡ delivered (replies control payload after) m memory
     → controlOf (answered bytes m forward reverse memory .memory) ≡ control
 unfolding delivered
-reply-control bytes m forward reverse memory control meant after six e = rw e (control-back (after .address) control meant _ six)
+reply-control bytes m forward reverse memory control payload after six e = rw e (control-back (after .address) control payload _ six)
 
 -- The command is that of the control code.
 pub reaches-one : {bytes : List ℕ} {m : Meter} {forward reverse : Rows} {memory : List ℕ} {command : Command}

@@ -1,22 +1,20 @@
 -- Operations keep a meter within its ranges, so that no calls from a fresh meter lead to 16.
-use Prim.Native.Nat.{ℕ, zero, suc}
-use mathlib.Core.Path.{_≡_, ap}
+use Prim.Native.Nat.{ℕ}
+use mathlib.Core.Path.{_≡_, refl, ap}
 use mathlib.Core.List.{List, [], _∷_}
-use mathlib.Core.Bool.{Bool, true, _&&_}
+use mathlib.Core.Bool.{Bool, _&&_}
 use native.Mathlib.Omega.{arith}
-use lib.ListN.{getD, set, take}
 use lib.Dec.{leb, eqb}
 use Rattle.frame.specs.Frame.{dataOf}
 use Rattle.frame.specs.Refusals.{outOfRange}
 use Rattle.item_address.specs.Address.{Good}
-use Rattle.item_address.specs.AddressLaws.{is-good}
 use Rattle.item_decimal.specs.Decimal.{isDecimal, firstBadFrom, firstBad, allDecimal}
-use Rattle.laws.specs.MemoryLaws.{pick-cases}
-use Rattle.energy.specs.Reading.{Reading, zeroReading, readingInRange, plusAmount}
-use Rattle.energy.specs.Energies.{Rows, zeroRows, rowInRange, rowsInRange, pulsed, settled, isRate, pulsedRows}
-use Rattle.meter_holding.specs.Holding as holding
-use Rattle.meter.specs.Meter.{withKey, withinRanges, freshMeter}
-use Rattle.meter.specs.Ranges.{RowInRange, RowsInRange, InRanges, reading-most, within-ranges, ranges-again}
+use Rattle.item_decimal.specs.DecimalLaws.{all-decimal}
+use Rattle.laws.specs.TestLaws.{pick-cases}
+use Rattle.energy.specs.Energies.{Rows, zeroRows, isRate}
+use Rattle.meter.specs.Meter.{withKey, freshMeter}
+use Rattle.meter.specs.Ranges.{InRanges, within-ranges, ranges-again, untouched-ranges}
+use Rattle.energy.specs.RangeLaws.{RowsInRange, zero-rows-in-range, pulsed-in-range, settled-in-range}
 use Rattle.meter_counting.specs.Counting as counting
 use Rattle.meter.specs.Host.{created, keySet, pulsedBy, settledBy}
 use Rattle.meter.specs.Answer.{delivered, answered}
@@ -36,14 +34,14 @@ pub record State : Type 0 where
   pub reverse : Rows
 
 -- A call, with all that it is given besides the meter.
-pub data Call : Type 0 where
-  key : Bool → Call
-  pulse : ℕ → ℕ → ℕ → Call
-  settle : Call
-  frame : List ℕ → List ℕ → Call
+pub data MeterCall : Type 0 where
+  key : Bool → MeterCall
+  pulse : ℕ → ℕ → ℕ → MeterCall
+  settle : MeterCall
+  frame : List ℕ → List ℕ → MeterCall
 
 -- What a call leaves, by the definitions that the operations' contracts cite.
-unfoldable pub after : Call → State → State
+unfoldable pub after : MeterCall → State → State
 after (key on) s = record { meter = keySet on (s .meter) (s .forward) (s .reverse) .meter; forward = s .forward; reverse = s .reverse }
 after (pulse amount direction rate) s =
     let c = pulsedBy amount direction rate (s .meter) (s .forward) (s .reverse) in
@@ -54,12 +52,12 @@ after settle s =
 after (frame bytes memory) s =
     record { meter = answered bytes (s .meter) (s .forward) (s .reverse) memory .answer .meter; forward = s .forward; reverse = s .reverse }
 
-unfoldable pub afterAll : List Call → State → State
+unfoldable pub afterAll : List MeterCall → State → State
 afterAll [] s = s
 afterAll (c ∷ calls) s = afterAll calls (after c s)
 
 -- A call is refused with 16.
-abbrev pub Refused16 : Call → State → Type 0
+abbrev pub Refused16 : MeterCall → State → Type 0
 Refused16 (key on) s = keySet on (s .meter) (s .forward) (s .reverse) .answer ≡ host.Refused outOfRange
 Refused16 (pulse amount direction rate) s =
     pulsedBy amount direction rate (s .meter) (s .forward) (s .reverse) .answer ≡ host.Refused outOfRange
@@ -72,37 +70,6 @@ abbrev pub freshState : List ℕ → State
 freshState address =
     let c = created address in
     record { meter = c .meter; forward = c .energies .forward; reverse = c .energies .reverse }
-
--- A pulse and a settlement keep readings within their range.
-set-in-range : (row : List Reading) (i : ℕ) (reading : Reading) → RowInRange row → readingInRange reading ≡ true → RowInRange (set row i reading)
-set-in-range [] i reading h r = tt
-set-in-range (x ∷ row) zero reading h r = (r, h .1)
-set-in-range (x ∷ row) (suc i) reading h r = (h .0, set-in-range row i reading (h .1) r)
-
-plus-in-range : (reading : Reading) (amount : ℕ) → readingInRange (plusAmount reading amount) ≡ true
-unfolding plusAmount
-plus-in-range reading amount = reading-most _ .1 (omega arith)
-
-pulsed-in-range : (rows : Rows) (amount rate : ℕ) → RowsInRange rows → RowsInRange (pulsed rows amount rate)
-unfolding pulsed
-pulsed-in-range rows amount rate h = pick-cases RowsInRange (isRate rate) (λ _. go rows h) (λ _. h)
-  where
-    go : (rows : Rows) → RowsInRange rows → RowsInRange (pulsedRows rows amount rate)
-    go [] h = tt
-    go (row ∷ rows) h =
-        let total : List Reading = set row 0 (plusAmount (getD row 0 zeroReading) amount) in
-        let first : RowInRange total = set-in-range row 0 _ (h .0) (plus-in-range (getD row 0 zeroReading) amount) in
-        (set-in-range total rate _ first (plus-in-range (getD row rate zeroReading) amount), h .1)
-
-take-in-range : (n : ℕ) (rows : Rows) → RowsInRange rows → RowsInRange (take n rows)
-take-in-range zero rows h = tt
-take-in-range (suc n) [] h = tt
-take-in-range (suc n) (row ∷ rows) h = (h .0, take-in-range n rows (h .1))
-
-settled-in-range : (rows : Rows) → RowsInRange rows → RowsInRange (settled rows)
-unfolding settled
-settled-in-range [] h = tt
-settled-in-range (row ∷ rows) h = (h .0, take-in-range 12 (row ∷ rows) h)
 
 -- What each call hands back is within the ranges, and its answer is not 16.
 abbrev Kept : Meter → Rows → Rows → Type 0 → Type 0
@@ -153,10 +120,10 @@ module _ (m : Meter) (forward reverse : Rows) (h : InRanges m forward reverse) w
       go : Answers bytes m forward reverse memory → let a = answered bytes m forward reverse memory .answer in
           Kept (a .meter) forward reverse (a .answer ≡ frames.Refused outOfRange)
       go (refuses n small e) = rw e (h, λ r. omega (arith, small h, ap frameNumber r))
-      go (errs command b w loud e) = rw e (h, λ r. omega (arith, ap frameNumber r))
+      go (errs command b w loud e) = rw e (untouched-ranges h, λ r. omega (arith, ap frameNumber r))
       go (carries command w all e) = rw e (ranges-after command (dataOf bytes) m forward reverse h all, λ r. omega (arith, ap frameNumber r))
 
-kept : (c : Call) (s : State) → InRanges (s .meter) (s .forward) (s .reverse)
+kept : (c : MeterCall) (s : State) → InRanges (s .meter) (s .forward) (s .reverse)
     → Kept (after c s .meter) (after c s .forward) (after c s .reverse) (Refused16 c s)
 unfolding after
 kept (key on) s h = key-kept (s .meter) (s .forward) (s .reverse) h on
@@ -165,11 +132,11 @@ kept settle s h = settle-kept (s .meter) (s .forward) (s .reverse) h
 kept (frame bytes memory) s h = frame-kept (s .meter) (s .forward) (s .reverse) h bytes memory
 
 -- Each operation keeps a meter within its ranges.
-pub keeps-within : (c : Call) (s : State) → InRanges (s .meter) (s .forward) (s .reverse)
+pub keeps-within : (c : MeterCall) (s : State) → InRanges (s .meter) (s .forward) (s .reverse)
     → InRanges (after c s .meter) (after c s .forward) (after c s .reverse)
 keeps-within c s h = kept c s h .0
 
-all-within : (calls : List Call) (s : State) → InRanges (s .meter) (s .forward) (s .reverse)
+all-within : (calls : List MeterCall) (s : State) → InRanges (s .meter) (s .forward) (s .reverse)
     → InRanges (afterAll calls s .meter) (afterAll calls s .forward) (afterAll calls s .reverse)
 unfolding afterAll
 all-within [] s h = h
@@ -177,11 +144,17 @@ all-within (c ∷ calls) s h = all-within calls (after c s) (keeps-within c s h)
 
 -- A fresh meter is within its ranges.
 fresh-within : (address : List ℕ) → Good address → InRanges (freshMeter address) zeroRows zeroRows
-unfolding freshMeter holding.withinRanges allDecimal firstBad firstBadFrom isDecimal rowsInRange rowInRange readingInRange
-fresh-within address h = within-ranges (freshMeter address) zeroRows zeroRows .0 (rw (is-good address h))
+unfolding freshMeter allDecimal firstBad firstBadFrom isDecimal
+fresh-within address h =
+    record {
+      address = h;
+      registers = all-decimal (freshMeter address .registers) refl;
+      forward-readings = zero-rows-in-range;
+      reverse-readings = zero-rows-in-range;
+    }
 
 -- No calls from a fresh meter lead to 16.
-pub never-out-of-range : (address : List ℕ) → Good address → (calls : List Call) (c : Call) → Refused16 c (afterAll calls (freshState address)) → ⊥
+pub never-out-of-range : (address : List ℕ) → Good address → (calls : List MeterCall) (c : MeterCall) → Refused16 c (afterAll calls (freshState address)) → ⊥
 unfolding created
 never-out-of-range address good calls c h =
     kept c (afterAll calls (freshState address)) (all-within calls (freshState address) (fresh-within address good)) .1 h

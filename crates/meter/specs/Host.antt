@@ -2,7 +2,7 @@
 use Prim.Native.Nat.{ℕ}
 use mathlib.Core.List.{List}
 use mathlib.Core.Bool.{Bool}
-use Rattle.laws.specs.Memory.{pick}
+use Rattle.laws.specs.Test.{pick}
 use Rattle.frame.specs.Refusals.{badArgument, outOfRange}
 use Rattle.item_address.specs.Address.{isGood}
 use Rattle.energy.specs.Energies.{Rows, zeroRows}

@@ -5,7 +5,7 @@ pub mod Answer
 pub mod Ranges
 pub mod AfterLaws
 pub mod AnswerLaws
-pub mod AnswerSteps
+pub mod CarriedOutLaws
 pub mod Writes
 pub mod Silence
 pub mod Replies

@@ -8,11 +8,11 @@ use Rattle.item.specs.declared.table.Item.{Item}
 use Rattle.energy.specs.Energies.{Rows}
 use Rattle.meter_holding.specs.Holding as holding
 use Rattle.meter_holding.specs.Holding.{registersWith, freshRegisters}
-use Rattle.meter_holding.specs.declared.place.Place.{Place}
+use Rattle.meter_holding.specs.declared.location.Location.{Location}
 use Rattle.meter.specs.declared.Meter.{Meter}
 
 -- What the type says of a meter.
-pub record Sized (m : Meter) : Type 0 where
+pub record MeterSized (m : Meter) : Type 0 where
   pub address : length (m .address) ≡ 6
   pub passwords : length (m .passwords) ≡ 30
   pub operator : length (m .operator) ≡ 4
@@ -40,13 +40,17 @@ abbrev pub noted : List ℕ → Meter → Meter
 noted operator m =
     record { address = m .address; key = m .key; passwords = m .passwords; operator = operator; registers = m .registers }
 
+-- What an answered frame leaves of a meter that it is not to change: reads and error replies.
+unfoldable pub untouched : Meter → Meter
+untouched m = m
+
 -- The value that a meter holds for an item.
 abbrev pub valueHeld : Item → Meter → Rows → Rows → List ℕ
 valueHeld item m forward reverse = holding.valueHeld item (m .address) (m .registers) forward reverse
 
--- The meter with other bytes at a place; only a register is written.
-abbrev pub withValue : Place → List ℕ → Meter → Meter
-withValue place value m = withRegisters (registersWith place value (m .registers)) m
+-- The meter with other bytes at a location; only a register is written.
+abbrev pub withValue : Location → List ℕ → Meter → Meter
+withValue location value m = withRegisters (registersWith location value (m .registers)) m
 
 -- Within document 01's ranges: the address good, every register decimal, every reading at most 99,999,999.
 abbrev pub withinRanges : Meter → Rows → Rows → Bool

@@ -1,28 +1,18 @@
 -- Document 01's ranges in words: what 16 refuses is the rest.
-use Prim.Native.Nat.{_≤_}
-use mathlib.Core.Path.{_≡_, refl}
-use mathlib.Core.List.{List, [], _∷_}
-use mathlib.Core.Bool.{true, and-eq-true-iff}
-use mathlib.Core.Logic.{_↔_, Iff·rfl}
-use borrow.Author.Tests.{leb-true, le-leb}
+use mathlib.Core.Path.{_≡_}
+use mathlib.Core.Bool.{Bool, true, and-eq-true-iff}
+use mathlib.Core.Logic.{_↔_}
+use Rattle.laws.specs.Test.{pick}
+use Rattle.laws.specs.TestLaws.{pick-cases}
 use Rattle.item_address.specs.Address.{Good}
 use Rattle.item_address.specs.AddressLaws.{good, is-good}
 use Rattle.item_decimal.specs.Decimal.{Decimal}
 use Rattle.item_decimal.specs.DecimalLaws.{all-decimal, decimal-all}
-use Rattle.energy.specs.Energies.{Rows, rowInRange, rowsInRange}
-use Rattle.energy.specs.Reading.{Reading, readingInRange}
+use Rattle.energy.specs.Energies.{Rows}
+use Rattle.energy.specs.RangeLaws.{RowsInRange, rows-in-range}
 use Rattle.meter_holding.specs.Holding as holding
-use Rattle.meter.specs.Meter.{withinRanges}
+use Rattle.meter.specs.Meter.{untouched, withinRanges}
 use Rattle.meter.specs.declared.Meter.{Meter}
-
--- Every reading of a row, and of every row, is within its range.
-abbrev pub RowInRange : List Reading → Type 0
-RowInRange [] = Unit
-RowInRange (reading ∷ row) = (readingInRange reading ≡ true) × RowInRange row
-
-abbrev pub RowsInRange : Rows → Type 0
-RowsInRange [] = Unit
-RowsInRange (row ∷ rows) = RowInRange row × RowsInRange rows
 
 -- The address is good, every register decimal, every reading within its range.
 pub record InRanges (m : Meter) (forward reverse : Rows) : Type 0 where
@@ -31,22 +21,11 @@ pub record InRanges (m : Meter) (forward reverse : Rows) : Type 0 where
   pub forward-readings : RowsInRange forward
   pub reverse-readings : RowsInRange reverse
 
--- A reading within its range is at most 99,999,999.
-pub reading-most : (reading : Reading) → (readingInRange reading ≡ true) ↔ (reading ≤ 99999999)
-unfolding readingInRange
-reading-most reading = (leb-true reading 99999999, le-leb reading 99999999)
+-- The readings of either direction are within their range.
+pub direction-in-range : {m : Meter} {forward reverse : Rows} → InRanges m forward reverse → (t : Bool) → RowsInRange (pick t forward reverse)
+direction-in-range h t = pick-cases RowsInRange t (λ _. h .forward-readings) (λ _. h .reverse-readings)
 
--- The tests of a row and of rows hold exactly where every reading is within its range.
-row-in-range : (row : List Reading) → (rowInRange row ≡ true) ↔ RowInRange row
-unfolding rowInRange
-row-in-range [] = (λ h. tt, λ u. refl)
-row-in-range (reading ∷ row) = simp (and-eq-true-iff, row-in-range row) Iff·rfl
-
-rows-in-range : (rows : Rows) → (rowsInRange rows ≡ true) ↔ RowsInRange rows
-unfolding rowsInRange
-rows-in-range [] = (λ h. tt, λ u. refl)
-rows-in-range (row ∷ rows) = simp (and-eq-true-iff, row-in-range, rows-in-range rows) Iff·rfl
-
+-- The test of the ranges holds exactly there.
 pub within-ranges : (m : Meter) (forward reverse : Rows) → (withinRanges m forward reverse ≡ true) ↔ InRanges m forward reverse
 unfolding holding.withinRanges
 within-ranges m forward reverse = (from-test, to-test)
@@ -76,3 +55,8 @@ ranges-again h after address registers =
       forward-readings = h .forward-readings;
       reverse-readings = h .reverse-readings;
     }
+
+-- What an answered frame leaves that it is not to change is within its ranges.
+pub untouched-ranges : {m : Meter} {forward reverse : Rows} → InRanges m forward reverse → InRanges (untouched m) forward reverse
+unfolding untouched
+untouched-ranges h = h

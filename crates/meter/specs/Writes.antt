@@ -1,6 +1,6 @@
 -- Demand 2 of the letter, for writes: a write sets the one register that it names, and the operator code beside it, exactly when
 -- every listed check holds; otherwise nothing moves.
-use Prim.Native.Nat.{ℕ, zero, suc, _+_, _≤_, _<_}
+use Prim.Native.Nat.{ℕ, _+_, _≤_, _<_}
 use mathlib.Core.Path.{_≡_, refl, sym, ap, _∙_}
 use mathlib.Core.List.{List, [], _∷_, _++_, append-nil}
 use mathlib.Core.Bool.{Bool, true, false, true≢false}
@@ -8,27 +8,27 @@ use native.Mathlib.Omega.{arith}
 use lib.ListN.{length, take, length-append}
 use lib.Seq.{length-take-le, take-all}
 use borrow.Author.Tests.{eq-eqb}
-use Rattle.laws.specs.Memory.{outcome, over, Bytes}
+use Rattle.laws.specs.AllLaws.{all-take}
+use Rattle.laws.specs.Memory.{outcome, over, IsByte, Bytes}
 use Rattle.frame.specs.Frame.{Frame, addressOf, controlOf, dataOf, frameFor}
 use Rattle.frame.specs.FrameLaws.{frame-for, address-back, control-back, data-back}
 use Rattle.laws.specs.ChecksLaws.{AllHold}
-use Rattle.item.specs.ContentLaws.{Range}
-use Rattle.item_decimal.specs.Decimal.{Decimal}
 use Rattle.item_command.specs.Reply.{controlCode, replyTo}
 use Rattle.item_same.specs.SameLaws.{same-equal, same-refl, equal-same}
 use Rattle.item.specs.Table.{itemOf}
 use Rattle.item.specs.declared.table.Item.{Item}
 use Rattle.item.specs.declared.table.Lookup.the-variants.{Listed}
 use Rattle.energy.specs.Energies.{Rows}
-use Rattle.meter.specs.Meter.{Sized, valueHeld}
-use Rattle.meter_decision.specs.Decision.{passwordAt, checksOf}
-use Rattle.meter.specs.MeterLaws.{value-length, value-back, value-other}
+use Rattle.meter.specs.Meter.{MeterSized, valueHeld, untouched}
+use Rattle.meter_decision.specs.Decision.{checksOf}
+use Rattle.meter.specs.MeterLaws.{value-length, value-back, value-other, untouched-keeps, untouched-sized}
 use Rattle.meter.specs.Ranges.{InRanges}
-use Rattle.meter_decision.specs.Request.{itemAsked, levelOf, passwordOf, operatorOf, writtenValue}
+use Rattle.meter_decision.specs.Request.{itemAsked, operatorOf, writtenValue}
 use Rattle.item_identifier.specs.Identifier.{identifierOf}
 use Rattle.item_identifier.specs.IdentifierLaws.{identifier-take}
-use Rattle.item_command.specs.Command.{controlFor, addressed}
-use Rattle.meter.specs.Answer.{replyData, meterAfter, answeredWith, delivered, answered}
+use Rattle.item_command.specs.Command.{controlFor}
+use Rattle.item_command.specs.Addressee.{namesMeter, addressed}
+use Rattle.meter.specs.Answer.{replyData, meterAfter, answeredWith, delivered, answered, Unmoved}
 use Rattle.meter_decision.specs.DecisionLaws.{WriteHolds, write-holds, holds-write}
 use Rattle.item_command.specs.CommandLaws.{same-control}
 use Rattle.meter.specs.AfterLaws.{only-registers-of, sized-after, ranges-after, address-kept}
@@ -45,17 +45,7 @@ pub record EveryCheckHolds (bytes : List ℕ) (m : Meter) (forward reverse : Row
   pub one-frame : Frame bytes
   pub control : controlOf bytes ≡ 0x14
   pub address : addressOf bytes ≡ m .address
-  pub least : 12 ≤ length (dataOf bytes)
-  pub most : length (dataOf bytes) ≤ 50
-  pub item : Item
-  pub listed : itemOf (identifierOf (dataOf bytes)) ≡ Listed item
-  pub writable : item .writable ≡ true
-  pub key-on : m .key ≡ true
-  pub level : levelOf (dataOf bytes) ≤ 4
-  pub password : passwordOf (dataOf bytes) ≡ passwordAt (levelOf (dataOf bytes)) (m .passwords)
-  pub data-length : length (writtenValue (dataOf bytes)) ≡ item .length
-  pub decimal : Decimal (writtenValue (dataOf bytes))
-  pub range : Range (item .kind) (writtenValue (dataOf bytes))
+  pub row : WriteHolds (dataOf bytes) (m .key) (m .passwords)
 
 -- The write was accepted: it is answered 94, the item holds the written bytes and the operator code is that of the request, every other
 -- listed item holds what it held, key and passwords are as they were, and a read of the item gives the written bytes.
@@ -73,30 +63,24 @@ pub record Accepted (bytes : List ℕ) (m : Meter) (forward reverse : Rows) (mem
   pub ranges : InRanges after forward reverse
   pub read-back : (again : List ℕ) → 212 ≤ length again
       → answered (frameFor (m .address) 0x11 (take 4 (dataOf bytes))) after forward reverse again
-      ≡ outcome (answeredWith after (Replied (16 + item .length)))
+      ≡ outcome (answeredWith (untouched after) (Replied (16 + item .length)))
       (over (frameFor (m .address) 0x91 (take 4 (dataOf bytes) ++ writtenValue (dataOf bytes))) again)
 
--- No write was accepted: no reply is 94, registers and operator code are as they were, and after a frame with control 14 so is all else.
+-- No write was accepted: no reply is 94, registers and operator code are as they were, and a frame with control 14 moved nothing.
 pub record NotAccepted (bytes : List ℕ) (m : Meter) (forward reverse : Rows) (memory : List ℕ) : Type 0 where
   pub no-94 : (n : ℕ) → answered bytes m forward reverse memory .answer .answer ≡ Replied n
       → controlOf (answered bytes m forward reverse memory .memory) ≡ 0x94 → ⊥
   pub registers : answered bytes m forward reverse memory .answer .meter .registers ≡ m .registers
   pub operator : answered bytes m forward reverse memory .answer .meter .operator ≡ m .operator
-  pub same : controlOf bytes ≡ 0x14 → answered bytes m forward reverse memory .answer .meter ≡ m
-
--- The first of bytes are bytes.
-bytes-take : (n : ℕ) (xs : List ℕ) → Bytes xs → Bytes (take n xs)
-bytes-take zero xs h = tt
-bytes-take (suc n) [] h = tt
-bytes-take (suc n) (x ∷ xs) h = (h .0, bytes-take n xs (h .1))
+  pub unmoved : let a = answered bytes m forward reverse memory .answer in controlOf bytes ≡ 0x14 → Unmoved (a .answer) m (a .meter)
 
 -- A read of a listed item by the meter's own address gives its value.
 read-value : (identifier own value : List ℕ) (item : Item) (m : Meter) (forward reverse : Rows) (memory : List ℕ) → Bytes identifier
-    → length identifier ≡ 4 → itemOf (identifierOf identifier) ≡ Listed item → Sized m → InRanges m forward reverse → 212 ≤ length memory
+    → length identifier ≡ 4 → itemOf (identifierOf identifier) ≡ Listed item → MeterSized m → InRanges m forward reverse → 212 ≤ length memory
     → m .address ≡ own → valueHeld item m forward reverse ≡ value
     → answered (frameFor own 0x11 identifier) m forward reverse memory
-    ≡ outcome (answeredWith m (Replied (16 + item .length))) (over (frameFor own 0x91 (identifier ++ value)) memory)
-unfolding delivered replyTo controlCode checksOf itemAsked addressed replyData meterAfter
+    ≡ outcome (answeredWith (untouched m) (Replied (16 + item .length))) (over (frameFor own 0x91 (identifier ++ value)) memory)
+unfolding delivered replyTo controlCode checksOf itemAsked addressed namesMeter replyData meterAfter
 read-value identifier own value item m forward reverse memory bytes four listed sized ranges room from held =
     let request : List ℕ = frameFor (m .address) 0x11 identifier in
     let address : addressOf request ≡ m .address = rw append-nil at (address-back (m .address) 0x11 identifier [] (sized .address)) in
@@ -113,23 +97,20 @@ read-value identifier own value item m forward reverse memory bytes four listed 
       for-meter = rw (address, same-refl (m .address));
     })
     (rw asked (eq-eqb _ _ four), (rw (asked, listed), tt))
-    ∙ rw (asked, listed, take-all 4 identifier (omega arith), size))
+    ∙ rw (asked, listed, untouched-keeps m .address, take-all 4 identifier (omega arith), size))
 
--- Every check of a write, told apart: those before the row of 14, and that row; and put together again.
+-- The checks before the row of 14, by the command and in words.
 module _ {bytes : List ℕ} {m : Meter} {forward reverse : Rows} {memory : List ℕ} where
   reaches : EveryCheckHolds bytes m forward reverse memory → Reaches bytes m forward reverse memory WriteData
-  unfolding addressed
+  unfolding addressed namesMeter
   reaches w = search (equal-same (addressOf bytes) (m .address) (w .address))
 
-  row-holds : EveryCheckHolds bytes m forward reverse memory → WriteHolds (dataOf bytes) (m .key) (m .passwords)
-  row-holds w = search
-
   every-check : Reaches bytes m forward reverse memory WriteData → WriteHolds (dataOf bytes) (m .key) (m .passwords) → EveryCheckHolds bytes m forward reverse memory
-  unfolding addressed
+  unfolding addressed namesMeter
   every-check r w = search (same-equal (addressOf bytes) (m .address) (r .for-meter))
 
-pub accepted-write : (bytes : List ℕ) (m : Meter) (forward reverse : Rows) (memory : List ℕ) → Sized m
-    → (w : EveryCheckHolds bytes m forward reverse memory) → Accepted bytes m forward reverse memory (w .item)
+pub accepted-write : (bytes : List ℕ) (m : Meter) (forward reverse : Rows) (memory : List ℕ) → MeterSized m
+    → (w : EveryCheckHolds bytes m forward reverse memory) → Accepted bytes m forward reverse memory (w .row .item)
 unfolding delivered replyTo controlCode replyData meterAfter itemAsked
 accepted-write bytes m forward reverse memory sized w =
     record {
@@ -140,34 +121,34 @@ accepted-write bytes m forward reverse memory sized w =
       held = held;
       operator = refl;
       others =
-          λ identifier other h differ. rw (w .listed)
-          (value-other (identifierOf meant) (w .item) (w .listed) m sized (writtenValue meant) (w .data-length) (w .writable) identifier other h differ
+          λ identifier other h differ. rw (w .row .listed)
+          (value-other (identifierOf payload) (w .row .item) (w .row .listed) m sized (writtenValue payload) (w .row .data-length) (w .row .writable) identifier other h differ
           forward reverse);
       address = kept;
-      key = rw (only-registers-of (itemAsked meant) (writtenValue meant) m);
-      passwords = rw (only-registers-of (itemAsked meant) (writtenValue meant) m);
-      ranges = ranges-after WriteData meant m forward reverse (w .ranges) all;
+      key = rw (only-registers-of (itemAsked payload) (writtenValue payload) m);
+      passwords = rw (only-registers-of (itemAsked payload) (writtenValue payload) m);
+      ranges = ranges-after WriteData payload m forward reverse (w .ranges) all;
       read-back =
-          λ again room. read-value (take 4 meant) (m .address) (writtenValue meant) (w .item) after forward reverse again
-          (bytes-take 4 meant (data-bytes bytes)) (length-take-le 4 meant (omega (arith, w .least))) (rw (identifier-take meant) (w .listed))
-          (sized-after WriteData meant m sized all) (ranges-after WriteData meant m forward reverse (w .ranges) all) room kept held;
+          λ again room. read-value (take 4 payload) (m .address) (writtenValue payload) (w .row .item) after forward reverse again
+          (all-take IsByte 4 payload (data-bytes bytes)) (length-take-le 4 payload (omega (arith, w .row .least))) (rw (identifier-take payload) (w .row .listed))
+          (sized-after WriteData payload m sized all) (ranges-after WriteData payload m forward reverse (w .ranges) all) room kept held;
     }
   where
-    meant : List ℕ
-    meant = dataOf bytes
+    payload : List ℕ
+    payload = dataOf bytes
 
-    all : AllHold (checksOf WriteData meant (m .key) (m .passwords))
-    all = holds-write meant (m .key) (m .passwords) (row-holds w)
+    all : AllHold (checksOf WriteData payload (m .key) (m .passwords))
+    all = holds-write payload (m .key) (m .passwords) (w .row)
 
     after : Meter
-    after = meterAfter WriteData meant m
+    after = meterAfter WriteData payload m
 
     kept : after .address ≡ m .address
-    kept = address-kept WriteData meant m (λ e. omega arith)
+    kept = address-kept WriteData payload m (λ e. omega arith)
 
-    held : valueHeld (w .item) after forward reverse ≡ writtenValue meant
+    held : valueHeld (w .row .item) after forward reverse ≡ writtenValue payload
     held =
-        rw (w .listed) (value-back (identifierOf meant) (w .item) (w .listed) m sized (writtenValue meant) (w .data-length) (w .writable) forward reverse)
+        rw (w .row .listed) (value-back (identifierOf payload) (w .row .item) (w .row .listed) m sized (writtenValue payload) (w .row .data-length) (w .row .writable) forward reverse)
 
 -- Only the normal reply to 14 is 94.
 control-below : (command : Command) → controlFor command < 32
@@ -183,38 +164,38 @@ reply-94 command true e = absurd (omega (arith, control-below command))
 reply-94 command false e = (omega (arith, control-below command), refl)
 
 -- Another command changes neither registers nor the operator code.
-unwritten : (command : Command) (meant : List ℕ) (m : Meter) → (controlFor command ≡ 0x14 → ⊥)
-    → (meterAfter command meant m .registers ≡ m .registers) × (meterAfter command meant m .operator ≡ m .operator)
+unwritten : (command : Command) (payload : List ℕ) (m : Meter) → (controlFor command ≡ 0x14 → ⊥)
+    → (meterAfter command payload m .registers ≡ m .registers) × (meterAfter command payload m .operator ≡ m .operator)
 unfolding meterAfter
-unwritten ReadData meant m other = (refl, refl)
-unwritten ReadAddress meant m other = (refl, refl)
-unwritten WriteData meant m other = absurd (other refl)
-unwritten WriteAddress meant m other = (refl, refl)
-unwritten ChangePassword meant m other = (refl, refl)
+unwritten ReadData payload m other = (untouched-keeps m .registers, untouched-keeps m .operator)
+unwritten ReadAddress payload m other = (untouched-keeps m .registers, untouched-keeps m .operator)
+unwritten WriteData payload m other = absurd (other refl)
+unwritten WriteAddress payload m other = (refl, refl)
+unwritten ChangePassword payload m other = (refl, refl)
 
-pub no-write : (bytes : List ℕ) (m : Meter) (forward reverse : Rows) (memory : List ℕ) → Sized m
+pub no-write : (bytes : List ℕ) (m : Meter) (forward reverse : Rows) (memory : List ℕ) → MeterSized m
     → (EveryCheckHolds bytes m forward reverse memory → ⊥) → NotAccepted bytes m forward reverse memory
 unfolding delivered
 no-write bytes m forward reverse memory sized h = go (answers bytes m forward reverse memory)
   where
-    -- The meter is as it was, and there is no 94.
-    unmoved : answered bytes m forward reverse memory .answer .meter ≡ m
-        → ((n : ℕ) → answered bytes m forward reverse memory .answer .answer ≡ Replied n
-        → controlOf (answered bytes m forward reverse memory .memory) ≡ 0x94 → ⊥)
-        → NotAccepted bytes m forward reverse memory
-    unmoved e none =
-        record {
-          no-94 = none;
-          registers = ap (λ (a : Meter). a .registers) e;
-          operator = ap (λ (a : Meter). a .operator) e;
-          same = λ c. e;
-        }
-
     go : Answers bytes m forward reverse memory → NotAccepted bytes m forward reverse memory
-    go (refuses k small e) = unmoved (rw e) (λ n said c. not-replied (rw e at said))
+    go (refuses k small e) =
+        record {
+          no-94 = λ n said c. not-replied (rw e at said);
+          registers = rw e;
+          operator = rw e;
+          unmoved = λ c. rw e refl;
+        }
     go (errs command b w loud e) =
-        unmoved (rw e)
-        (λ n said c. true≢false (reply-94 command true (sym (reply-control bytes m forward reverse memory _ (b ∷ []) m (sized .address) e) ∙ c) .1))
+        record {
+          no-94 =
+              λ n said c. true≢false
+              (reply-94 command true
+              (sym (reply-control bytes m forward reverse memory _ (b ∷ []) (untouched m) (untouched-sized m sized .address) e) ∙ c) .1);
+          registers = rw e (untouched-keeps m .registers);
+          operator = rw e (untouched-keeps m .operator);
+          unmoved = λ c. rw e refl;
+        }
     go (carries command w all e) =
         record {
           no-94 =
@@ -223,7 +204,7 @@ no-write bytes m forward reverse memory sized h = go (answers bytes m forward re
               (sym (reply-control bytes m forward reverse memory _ _ after (sized-after command (dataOf bytes) m sized all .address) e) ∙ c) .0);
           registers = rw e (unwritten command (dataOf bytes) m other .0);
           operator = rw e (unwritten command (dataOf bytes) m other .1);
-          same = λ c. absurd (other (sym (w .control) ∙ c));
+          unmoved = λ c. absurd (other (sym (w .control) ∙ c));
         }
       where
         after : Meter

@@ -3,6 +3,7 @@ use crate::Answered;
 use crate::FrameAnswer;
 use crate::Meter;
 use crate::change::readdressed;
+use crate::change::untouched;
 use crate::change::with_password;
 use crate::change::written;
 use energy::Rows;
@@ -31,7 +32,9 @@ ghost use Rattle.laws.specs.ChecksLaws.{AllHold};
 ghost use Rattle.frame.specs.Recognition.{exactlyOne};
 ghost use Rattle.item_identifier.specs.Identifier.{identifierOf};
 ghost use Rattle.meter_decision.specs.Decision.{checksOf};
-ghost use Rattle.meter.specs.Answer.{replies, replyData, carriedOut, treated, answeredWith, delivered};
+ghost use Rattle.meter.specs.Meter.{untouched};
+ghost use Rattle.meter.specs.Answer.{replies, valueAsked, replyData, carriedOut, treated, answeredWith, delivered};
+ghost use Rattle.frame.specs.Frame.{mostFrame};
 
 // A refusal: the meter as it was.
 pub(crate) fn refused(meter: Meter, refusal: u8) -> Answered
@@ -44,12 +47,12 @@ pub(crate) fn refused(meter: Meter, refusal: u8) -> Answered
 }
 
 // A reply from the meter as it then is: its frame is written to the front of the output buffer.
-fn reply(after: Meter, control: u8, meant: &[u8], out: &mut [u8]) -> Answered
-    requires { ⌜ (length (now meant) ≤ 200) × (212 ≤ length (now out)) ⌝ }
-    ensures { λ r. ⌜ outcome r (now (out .exit)) ≡ delivered (replies control (now (meant .entry)) after) after (now (out .entry)) ⌝ }
+fn reply(after: Meter, control: u8, payload: &[u8], out: &mut [u8]) -> Answered
+    requires { ⌜ (length (now payload) ≤ 200) × (mostFrame ≤ length (now out)) ⌝ }
+    ensures { λ r. ⌜ outcome r (now (out .exit)) ≡ delivered (replies control (now (payload .entry)) after) after (now (out .entry)) ⌝ }
 {
     let address = after.address;
-    let Written::Length(n) = write_frame(address, control, meant, out) else {
+    let Written::Length(n) = write_frame(address, control, payload, out) else {
         return refused(after, SHORT_MEMORY);
     };
     Answered {
@@ -65,15 +68,15 @@ fn reply_value(
     reverse: Rows,
     control: u8,
     identifier: u32,
-    meant: &[u8],
+    payload: &[u8],
     out: &mut [u8],
 ) -> Answered
-    requires { ⌜ (identifier ≡ identifierOf (now meant)) × (212 ≤ length (now out)) ⌝ }
-    requires { ⌜ AllHold (checksOf Command.ReadData (now meant) (meter .key) (meter .passwords)) ⌝ }
-    ensures { λ r. ⌜ outcome r (now (out .exit)) ≡ delivered (replies control (replyData Command.ReadData (now (meant .entry)) meter forward reverse) meter) meter (now (out .entry)) ⌝ }
+    requires { ⌜ (identifier ≡ identifierOf (now payload)) × (mostFrame ≤ length (now out)) ⌝ }
+    requires { ⌜ AllHold (checksOf Command.ReadData (now payload) (meter .key) (meter .passwords)) ⌝ }
+    ensures { λ r. ⌜ outcome r (now (out .exit)) ≡ delivered (replies control (replyData Command.ReadData (now (payload .entry)) meter (valueAsked (now (payload .entry)) meter forward reverse)) (untouched meter)) meter (now (out .entry)) ⌝ }
 {
     let mut data = [0u8; 200];
-    bytes::copy(meant, &mut data);
+    bytes::copy(payload, &mut data);
     let address = meter.address;
     let registers = meter.registers;
     let Held::Length(n) = write_value(
@@ -86,7 +89,7 @@ fn reply_value(
     ) else {
         return refused(meter, SHORT_MEMORY);
     };
-    reply(meter, control, &data[..4 + n], out)
+    reply(untouched(meter), control, &data[..4 + n], out)
 }
 
 // A command carried out: what is decided is replied, with the meter as the command leaves it.
@@ -95,32 +98,32 @@ fn carry_out(
     forward: Rows,
     reverse: Rows,
     command: Command,
-    meant: &[u8],
+    payload: &[u8],
     out: &mut [u8],
 ) -> Answered
-    requires { ⌜ 212 ≤ length (now out) ⌝ }
-    ensures { λ r. ⌜ outcome r (now (out .exit)) ≡ delivered (carriedOut command (now (meant .entry)) meter forward reverse) meter (now (out .entry)) ⌝ }
+    requires { ⌜ mostFrame ≤ length (now out) ⌝ }
+    ensures { λ r. ⌜ outcome r (now (out .exit)) ≡ delivered (carriedOut command (now (payload .entry)) meter (valueAsked (now (payload .entry)) meter forward reverse)) meter (now (out .entry)) ⌝ }
 {
     let key = meter.key;
     let passwords = meter.passwords;
     let control = control_of(command);
     let normal = reply_to(control, false);
-    let decision = decide(command, meant, key, passwords);
+    let decision = decide(command, payload, key, passwords);
     match decision {
         Decision::Silent(refusal) => refused(meter, refusal),
-        Decision::Error(byte) => reply(meter, reply_to(control, true), &[byte], out),
+        Decision::Error(byte) => reply(untouched(meter), reply_to(control, true), &[byte], out),
         Decision::Read(identifier) => {
-            reply_value(meter, forward, reverse, normal, identifier, meant, out)
+            reply_value(meter, forward, reverse, normal, identifier, payload, out)
         }
         Decision::OwnAddress => {
             let address = meter.address;
-            reply(meter, normal, &address, out)
+            reply(untouched(meter), normal, &address, out)
         }
-        Decision::Write(identifier) => reply(written(meter, identifier, meant), normal, &[], out),
-        Decision::NewAddress => reply(readdressed(meter, meant), normal, &[], out),
+        Decision::Write(identifier) => reply(written(meter, identifier, payload), normal, &[], out),
+        Decision::NewAddress => reply(readdressed(meter, payload), normal, &[], out),
         Decision::NewPassword(level) => {
-            let after = with_password(meter, level, &meant[9..12]);
-            reply(after, normal, &meant[8..12], out)
+            let after = with_password(meter, level, &payload[9..12]);
+            reply(after, normal, &payload[8..12], out)
         }
     }
 }
@@ -133,7 +136,7 @@ pub(crate) fn treat(
     bytes: &[u8],
     out: &mut [u8],
 ) -> Answered
-    requires { ⌜ (exactlyOne (now bytes) ≡ true) × (212 ≤ length (now out)) ⌝ }
+    requires { ⌜ (exactlyOne (now bytes) ≡ true) × (mostFrame ≤ length (now out)) ⌝ }
     ensures { λ r. ⌜ outcome r (now (out .exit)) ≡ delivered (treated (now (bytes .entry)) meter forward reverse) meter (now (out .entry)) ⌝ }
 {
     let Asked::Known(command) = command_of(bytes[8]) else {
@@ -143,7 +146,7 @@ pub(crate) fn treat(
     if !is_addressed(command, address_of(bytes), own) {
         return refused(meter, NOT_FOR_THIS_METER);
     }
-    let meant = data_of(bytes);
+    let payload = data_of(bytes);
     let length = bytes[9] as usize;
-    carry_out(meter, forward, reverse, command, &meant[..length], out)
+    carry_out(meter, forward, reverse, command, &payload[..length], out)
 }

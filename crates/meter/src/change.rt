@@ -1,4 +1,5 @@
-// What an accepted command changes: 14 the register and the operator code, 15 the address, 18 one password.
+// What an answered frame leaves of the meter: an accepted 14 changes the register and the operator code, 15 the address, 18 one password;
+// any other leaves it untouched.
 use crate::Meter;
 use item_command::Command;
 use meter_holding::with_value;
@@ -9,19 +10,26 @@ ghost use Rattle.laws.specs.ChecksLaws.{AllHold};
 ghost use Rattle.laws.specs.Part.{withPart};
 ghost use Rattle.item_identifier.specs.Identifier.{identifierOf};
 ghost use Rattle.meter_decision.specs.Decision.{checksOf};
-ghost use Rattle.meter.specs.Meter.{withAddress, withPasswords};
+ghost use Rattle.meter.specs.Meter.{untouched, withAddress, withPasswords};
 ghost use Rattle.meter.specs.Answer.{meterAfter};
 
+// What an answered frame leaves of a meter that it is not to change.
+pub(crate) fn untouched(meter: Meter) -> Meter
+    ensures { λ r. ⌜ r ≡ untouched meter ⌝ }
+{
+    meter
+}
+
 // The meter with another value of an identifier, and the operator code of the write as its note.
-pub(crate) fn written(meter: Meter, identifier: u32, meant: &[u8]) -> Meter
-    requires { ⌜ identifier ≡ identifierOf (now meant) ⌝ }
-    requires { ⌜ AllHold (checksOf Command.WriteData (now meant) (meter .key) (meter .passwords)) ⌝ }
-    ensures { λ r. ⌜ r ≡ meterAfter Command.WriteData (now (meant .entry)) meter ⌝ }
+pub(crate) fn written(meter: Meter, identifier: u32, payload: &[u8]) -> Meter
+    requires { ⌜ identifier ≡ identifierOf (now payload) ⌝ }
+    requires { ⌜ AllHold (checksOf Command.WriteData (now payload) (meter .key) (meter .passwords)) ⌝ }
+    ensures { λ r. ⌜ r ≡ meterAfter Command.WriteData (now (payload .entry)) meter ⌝ }
 {
     let held = meter.registers;
-    let registers = with_value(held, identifier, &meant[12..]);
+    let registers = with_value(held, identifier, &payload[12..]);
     let mut operator = [0u8; 4];
-    bytes::copy(&meant[8..12], &mut operator);
+    bytes::copy(&payload[8..12], &mut operator);
     let mut next = meter;
     next.registers = registers;
     next.operator = operator;

@@ -9,6 +9,7 @@ use answer::treat;
 use energy::Energies;
 use energy::Rows;
 use energy::rows;
+use frame::MOST_FRAME;
 use frame::refusal::BAD_ARGUMENT;
 use frame::refusal::NOT_ONE_FRAME;
 use frame::refusal::OUT_OF_RANGE;
@@ -151,7 +152,7 @@ impl Meter {
         if !self.is_within_ranges(forward, reverse) {
             return refused(self, OUT_OF_RANGE);
         }
-        if out.len() < 212 {
+        if out.len() < MOST_FRAME {
             return refused(self, SHORT_MEMORY);
         }
         if !frame::is_frame(bytes) {

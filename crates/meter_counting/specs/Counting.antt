@@ -2,7 +2,7 @@
 use Prim.Native.Nat.{ℕ}
 use mathlib.Core.Bool.{Bool, _&&_}
 use lib.Dec.{leb, eqb}
-use Rattle.laws.specs.Memory.{pick}
+use Rattle.laws.specs.Test.{pick}
 use Rattle.frame.specs.Refusals.{badArgument, outOfRange}
 use Rattle.energy.specs.Energies.{Rows, isRate, pulsed, settled}
 use Rattle.energy.specs.declared.Energies.{Energies}

@@ -22,7 +22,7 @@ pub struct Counted {
 }
 
 // The readings that a host call hands back.
-fn hand_back(forward: Rows, reverse: Rows, answer: HostAnswer) -> Counted
+fn with_answer(forward: Rows, reverse: Rows, answer: HostAnswer) -> Counted
     ensures { λ r. ⌜ r ≡ counted forward reverse answer ⌝ }
 {
     Counted {
@@ -43,22 +43,22 @@ pub fn pulse(
     ensures { λ r. ⌜ r ≡ pulsedBy amount direction rate within forward reverse ⌝ }
 {
     if !within {
-        return hand_back(forward, reverse, HostAnswer::Refused(OUT_OF_RANGE));
+        return with_answer(forward, reverse, HostAnswer::Refused(OUT_OF_RANGE));
     }
     if 1 < direction {
-        return hand_back(forward, reverse, HostAnswer::Refused(BAD_ARGUMENT));
+        return with_answer(forward, reverse, HostAnswer::Refused(BAD_ARGUMENT));
     }
     if !rows::is_rate(rate) {
-        return hand_back(forward, reverse, HostAnswer::Refused(BAD_ARGUMENT));
+        return with_answer(forward, reverse, HostAnswer::Refused(BAD_ARGUMENT));
     }
     if direction == 0 {
-        return hand_back(
+        return with_answer(
             rows::pulsed(forward, amount, rate),
             reverse,
             HostAnswer::Done,
         );
     }
-    hand_back(
+    with_answer(
         forward,
         rows::pulsed(reverse, amount, rate),
         HostAnswer::Done,
@@ -70,9 +70,9 @@ pub fn settle(within: bool, forward: Rows, reverse: Rows) -> Counted
     ensures { λ r. ⌜ r ≡ settledBy within forward reverse ⌝ }
 {
     if !within {
-        return hand_back(forward, reverse, HostAnswer::Refused(OUT_OF_RANGE));
+        return with_answer(forward, reverse, HostAnswer::Refused(OUT_OF_RANGE));
     }
-    hand_back(
+    with_answer(
         rows::settled(forward),
         rows::settled(reverse),
         HostAnswer::Done,

@@ -4,12 +4,12 @@ use mathlib.Core.List.{List}
 use mathlib.Core.Bool.{Bool, true, false}
 use lib.ListN.{length}
 use lib.Dec.{eqb}
-use Rattle.laws.specs.Memory.{pick}
-use Rattle.item.specs.Content.{within}
+use Rattle.laws.specs.Test.{pick}
+use Rattle.item_range.specs.Range.{within}
 use Rattle.meter_decision.specs.Request.{levelOf, newLevelOf}
 use Rattle.item_identifier.specs.Identifier.{identifierOf}
-use Rattle.meter_decision.specs.declared.request.Check.{Check}
-use Rattle.meter_decision.specs.declared.request.Check.the-variants.{Holds, Fails}
+use Rattle.meter_decision.specs.declared.request.Tested.{Tested}
+use Rattle.meter_decision.specs.declared.request.Tested.the-variants.{Holds, Fails}
 use Rattle.meter_decision.specs.declared.request.ReadRequest.{ReadRequest}
 use Rattle.meter_decision.specs.declared.request.ReadRequest.the-variants as read
 use Rattle.meter_decision.specs.declared.request.WriteRequest.{WriteRequest}
@@ -18,18 +18,18 @@ use Rattle.meter_decision.specs.declared.request.PasswordRequest.{Passwo
 use Rattle.meter_decision.specs.declared.request.PasswordRequest.the-variants as password
 
 -- A check that parses nothing.
-abbrev pub checkOf : Bool → Check
+abbrev pub checkOf : Bool → Tested
 checkOf true = Holds
 checkOf false = Fails
 
 -- The data of 11, of 14 and of 18, where their length is right.
 unfoldable pub readRequest : List ℕ → ReadRequest
-readRequest meant = pick (eqb (length meant) 4) (read.Identifier (identifierOf meant)) read.WrongLength
+readRequest payload = pick (eqb (length payload) 4) (read.Identifier (identifierOf payload)) read.WrongLength
 
 unfoldable pub writeRequest : List ℕ → WriteRequest
-writeRequest meant =
-    pick (within 12 50 (length meant)) (write.Parsed (identifierOf meant) (levelOf meant)) write.WrongLength
+writeRequest payload =
+    pick (within 12 50 (length payload)) (write.Parsed (identifierOf payload) (levelOf payload)) write.WrongLength
 
 unfoldable pub passwordRequest : List ℕ → PasswordRequest
-passwordRequest meant =
-    pick (eqb (length meant) 12) (password.Parsed (identifierOf meant) (levelOf meant) (newLevelOf meant)) password.WrongLength
+passwordRequest payload =
+    pick (eqb (length payload) 12) (password.Parsed (identifierOf payload) (levelOf payload) (newLevelOf payload)) password.WrongLength

@@ -14,7 +14,8 @@ use Rattle.item_command.specs.declared.Command.the-variants.{ReadData, ReadAddr
 use Rattle.item_decimal.specs.Decimal.{allDecimal}
 use Rattle.item_identifier.specs.Identifier.{identifierOf}
 use Rattle.item_same.specs.Same.{same}
-use Rattle.item.specs.Content.{contentOf, isAllowed, within}
+use Rattle.item_range.specs.Range.{within}
+use Rattle.item.specs.Content.{contentOf, isAllowed}
 use Rattle.item.specs.Table.{hasLength}
 use Rattle.item.specs.declared.table.Lookup.{Lookup}
 use Rattle.item.specs.declared.table.Lookup.the-variants.{Listed, NotListed}
@@ -44,13 +45,9 @@ abbrev pub hasContent : Lookup → List ℕ → Bool
 hasContent (Listed item) value = isAllowed (contentOf (item .kind) value)
 hasContent NotListed value = false
 
--- The level is at most 04 and the password of that level is right.
-unfoldable pub authorised : ℕ → List ℕ → List ℕ → Bool
-authorised level password passwords = leb level 4 && same password (passwordAt level passwords)
-
--- The old level is at most the new, and its password is right.
-unfoldable pub mayChange : ℕ → List ℕ → ℕ → List ℕ → Bool
-mayChange old password new passwords = leb old new && same password (passwordAt old passwords)
+-- The level is at most `most` and the password of that level is right: of 14 at most 04, of 18 at most the new level.
+unfoldable pub authorised : ℕ → ℕ → List ℕ → List ℕ → Bool
+authorised most level password passwords = leb level most && same password (passwordAt level passwords)
 
 -- 04 00 0C n with n one more than the new level, 00..09.
 unfoldable pub namesPassword : ℕ → ℕ → Bool
@@ -58,33 +55,33 @@ namesPassword identifier new = leb new 9 && eqb identifier (0x04000C01 + new)
 
 -- Document 01's table of checks, by control; the first failing check answers.
 unfoldable pub checksOf : Command → List ℕ → Bool → List ℕ → List (Check Failure)
-checksOf ReadData meant key passwords =
-    check (eqb (length meant) 4) (errorByte otherError)
-    ∷ check (isListed (itemAsked meant)) (errorByte noSuchData)
+checksOf ReadData payload key passwords =
+    check (eqb (length payload) 4) (errorByte otherError)
+    ∷ check (isListed (itemAsked payload)) (errorByte noSuchData)
     ∷ []
-checksOf ReadAddress meant key passwords =
-    check (eqb (length meant) 0) (silence silentByRule)
+checksOf ReadAddress payload key passwords =
+    check (eqb (length payload) 0) (silence silentByRule)
     ∷ []
-checksOf WriteAddress meant key passwords =
-    check (eqb (length meant) 6) (silence silentByRule)
+checksOf WriteAddress payload key passwords =
+    check (eqb (length payload) 6) (silence silentByRule)
     ∷ check key (silence silentByRule)
-    ∷ check (isGood meant) (silence silentByRule)
+    ∷ check (isGood payload) (silence silentByRule)
     ∷ []
-checksOf WriteData meant key passwords =
-    check (within 12 50 (length meant)) (errorByte otherError)
-    ∷ check (isListed (itemAsked meant)) (errorByte noSuchData)
-    ∷ check (isWritable (itemAsked meant)) (errorByte notAuthorised)
+checksOf WriteData payload key passwords =
+    check (within 12 50 (length payload)) (errorByte otherError)
+    ∷ check (isListed (itemAsked payload)) (errorByte noSuchData)
+    ∷ check (isWritable (itemAsked payload)) (errorByte notAuthorised)
     ∷ check key (errorByte notAuthorised)
-    ∷ check (authorised (levelOf meant) (passwordOf meant) passwords) (errorByte notAuthorised)
-    ∷ check (hasLength (itemAsked meant) (length (writtenValue meant))) (errorByte otherError)
-    ∷ check (hasContent (itemAsked meant) (writtenValue meant)) (errorByte otherError)
+    ∷ check (authorised 4 (levelOf payload) (passwordOf payload) passwords) (errorByte notAuthorised)
+    ∷ check (hasLength (itemAsked payload) (length (writtenValue payload))) (errorByte otherError)
+    ∷ check (hasContent (itemAsked payload) (writtenValue payload)) (errorByte otherError)
     ∷ []
-checksOf ChangePassword meant key passwords =
-    check (eqb (length meant) 12) (errorByte otherError)
-    ∷ check (namesPassword (identifierOf meant) (newLevelOf meant)) (errorByte noSuchData)
+checksOf ChangePassword payload key passwords =
+    check (eqb (length payload) 12) (errorByte otherError)
+    ∷ check (namesPassword (identifierOf payload) (newLevelOf payload)) (errorByte noSuchData)
     ∷ check key (errorByte notAuthorised)
-    ∷ check (mayChange (levelOf meant) (passwordOf meant) (newLevelOf meant) passwords) (errorByte notAuthorised)
-    ∷ check (allDecimal (newPasswordOf meant)) (errorByte otherError)
+    ∷ check (authorised (newLevelOf payload) (levelOf payload) (passwordOf payload) passwords) (errorByte notAuthorised)
+    ∷ check (allDecimal (newPasswordOf payload)) (errorByte otherError)
     ∷ []
 
 -- The decision where a check fails, and where every check holds.
@@ -93,12 +90,12 @@ failing (errorByte e) = Error e
 failing (silence n) = Silent n
 
 abbrev pub accepted : Command → List ℕ → Decision
-accepted ReadData meant = Read (identifierOf meant)
-accepted ReadAddress meant = OwnAddress
-accepted WriteData meant = Write (identifierOf meant)
-accepted WriteAddress meant = NewAddress
-accepted ChangePassword meant = NewPassword (newLevelOf meant)
+accepted ReadData payload = Read (identifierOf payload)
+accepted ReadAddress payload = OwnAddress
+accepted WriteData payload = Write (identifierOf payload)
+accepted WriteAddress payload = NewAddress
+accepted ChangePassword payload = NewPassword (newLevelOf payload)
 
 -- The decision on a command: the first failing check answers, else the command is carried out.
 unfoldable pub decided : Command → List ℕ → Bool → List ℕ → Decision
-decided command meant key passwords = firstFailing failing (checksOf command meant key passwords) (accepted command meant)
+decided command payload key passwords = firstFailing failing (checksOf command payload key passwords) (accepted command payload)

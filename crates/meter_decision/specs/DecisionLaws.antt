@@ -14,7 +14,9 @@ use Rattle.item_same.specs.SameLaws.{same-equal, equal-same}
 use Rattle.item_identifier.specs.Identifier.{identifierOf}
 use Rattle.item_command.specs.declared.Command.{Command}
 use Rattle.item_command.specs.declared.Command.the-variants.{ReadData, ReadAddress, WriteData, WriteAddress, ChangePassword}
-use Rattle.item.specs.Content.{isAllowed, within}
+use Rattle.item_range.specs.Range.{within}
+use Rattle.item_range.specs.RangeLaws.{within-iff}
+use Rattle.item.specs.Content.{isAllowed}
 use Rattle.item.specs.ContentLaws.{Range, content-allowed}
 use Rattle.item.specs.Table.{itemOf, hasLength}
 use Rattle.item.specs.declared.content.Content.{Content}
@@ -39,58 +41,58 @@ abbrev pub FailsAs : Command → Failure → Type 0
 FailsAs command (errorByte e) = failsSilently command ≡ false
 FailsAs command (silence n) = (failsSilently command ≡ true) × (n ≡ silentByRule)
 
-pub checks-fail : (command : Command) (meant : List ℕ) (key : Bool) (passwords : List ℕ)
-    → EachFailure (FailsAs command) (checksOf command meant key passwords)
+pub checks-fail : (command : Command) (payload : List ℕ) (key : Bool) (passwords : List ℕ)
+    → EachFailure (FailsAs command) (checksOf command payload key passwords)
 unfolding checksOf
-checks-fail ReadData meant key passwords = search
-checks-fail ReadAddress meant key passwords = search
-checks-fail WriteData meant key passwords = search depth 9
-checks-fail WriteAddress meant key passwords = search
-checks-fail ChangePassword meant key passwords = search depth 9
+checks-fail ReadData payload key passwords = search
+checks-fail ReadAddress payload key passwords = search
+checks-fail WriteData payload key passwords = search depth 9
+checks-fail WriteAddress payload key passwords = search
+checks-fail ChangePassword payload key passwords = search depth 9
 
 -- What a decision to carry out says: its command, what it names, and that every check holds.
 abbrev pub Carries : Command → List ℕ → Bool → List ℕ → Decision → Type 0
-Carries command meant key passwords (Silent n) = Unit
-Carries command meant key passwords (Error e) = Unit
-Carries command meant key passwords (Read identifier) =
-    (command ≡ ReadData) × (identifier ≡ identifierOf meant) × AllHold (checksOf ReadData meant key passwords)
-Carries command meant key passwords OwnAddress = (command ≡ ReadAddress) × AllHold (checksOf ReadAddress meant key passwords)
-Carries command meant key passwords (Write identifier) =
-    (command ≡ WriteData) × (identifier ≡ identifierOf meant) × AllHold (checksOf WriteData meant key passwords)
-Carries command meant key passwords NewAddress = (command ≡ WriteAddress) × AllHold (checksOf WriteAddress meant key passwords)
-Carries command meant key passwords (NewPassword level) =
-    (command ≡ ChangePassword) × (level ≡ newLevelOf meant) × AllHold (checksOf ChangePassword meant key passwords)
+Carries command payload key passwords (Silent n) = Unit
+Carries command payload key passwords (Error e) = Unit
+Carries command payload key passwords (Read identifier) =
+    (command ≡ ReadData) × (identifier ≡ identifierOf payload) × AllHold (checksOf ReadData payload key passwords)
+Carries command payload key passwords OwnAddress = (command ≡ ReadAddress) × AllHold (checksOf ReadAddress payload key passwords)
+Carries command payload key passwords (Write identifier) =
+    (command ≡ WriteData) × (identifier ≡ identifierOf payload) × AllHold (checksOf WriteData payload key passwords)
+Carries command payload key passwords NewAddress = (command ≡ WriteAddress) × AllHold (checksOf WriteAddress payload key passwords)
+Carries command payload key passwords (NewPassword level) =
+    (command ≡ ChangePassword) × (level ≡ newLevelOf payload) × AllHold (checksOf ChangePassword payload key passwords)
 
-pub carries : (command : Command) (meant : List ℕ) (key : Bool) (passwords : List ℕ)
-    → Carries command meant key passwords (decided command meant key passwords)
+pub carries : (command : Command) (payload : List ℕ) (key : Bool) (passwords : List ℕ)
+    → Carries command payload key passwords (decided command payload key passwords)
 unfolding decided
-carries command meant key passwords =
-    pass-or-any failing (accepted command meant) (Carries command meant key passwords) (checksOf command meant key passwords) (pass command) fail
+carries command payload key passwords =
+    pass-or-any failing (accepted command payload) (Carries command payload key passwords) (checksOf command payload key passwords) (pass command) fail
   where
-    pass : (command : Command) → AllHold (checksOf command meant key passwords) → Carries command meant key passwords (accepted command meant)
+    pass : (command : Command) → AllHold (checksOf command payload key passwords) → Carries command payload key passwords (accepted command payload)
     pass ReadData h = (refl, refl, h)
     pass ReadAddress h = (refl, h)
     pass WriteData h = (refl, refl, h)
     pass WriteAddress h = (refl, h)
     pass ChangePassword h = (refl, refl, h)
 
-    fail : (f : Failure) → Carries command meant key passwords (failing f)
+    fail : (f : Failure) → Carries command payload key passwords (failing f)
     fail (errorByte e) = tt
     fail (silence n) = tt
 
 -- What the checks of 14 say.
-pub record WriteHolds (meant : List ℕ) (key : Bool) (passwords : List ℕ) : Type 0 where
-  pub least : 12 ≤ length meant
-  pub most : length meant ≤ 50
+pub record WriteHolds (payload : List ℕ) (key : Bool) (passwords : List ℕ) : Type 0 where
+  pub least : 12 ≤ length payload
+  pub most : length payload ≤ 50
   pub item : Item
-  pub listed : itemOf (identifierOf meant) ≡ Listed item
+  pub listed : itemOf (identifierOf payload) ≡ Listed item
   pub writable : item .writable ≡ true
   pub key-on : key ≡ true
-  pub level : levelOf meant ≤ 4
-  pub password : passwordOf meant ≡ passwordAt (levelOf meant) passwords
-  pub data-length : length (writtenValue meant) ≡ item .length
-  pub decimal : Decimal (writtenValue meant)
-  pub range : Range (item .kind) (writtenValue meant)
+  pub level : levelOf payload ≤ 4
+  pub password : passwordOf payload ≡ passwordAt (levelOf payload) passwords
+  pub data-length : length (writtenValue payload) ≡ item .length
+  pub decimal : Decimal (writtenValue payload)
+  pub range : Range (item .kind) (writtenValue payload)
 
 -- The test of a content holds only of what is allowed.
 allowed : (c : Content) → isAllowed c ≡ true → c ≡ Allowed
@@ -98,25 +100,25 @@ allowed Allowed h = refl
 allowed (NotDecimal i) h = absurd (false≢true h)
 allowed OutOfRange h = absurd (false≢true h)
 
-module _ (meant : List ℕ) (key : Bool) (passwords : List ℕ) where
-  pub write-holds : AllHold (checksOf WriteData meant key passwords) → WriteHolds meant key passwords
-  unfolding checksOf itemAsked within authorised
-  write-holds h = go (itemAsked meant) refl (h .1 .1 .0) (h .1 .1 .1 .1 .1 .0) (h .1 .1 .1 .1 .1 .1 .0)
+module _ (payload : List ℕ) (key : Bool) (passwords : List ℕ) where
+  pub write-holds : AllHold (checksOf WriteData payload key passwords) → WriteHolds payload key passwords
+  unfolding checksOf itemAsked authorised
+  write-holds h = go (itemAsked payload) refl (h .1 .1 .0) (h .1 .1 .1 .1 .1 .0) (h .1 .1 .1 .1 .1 .1 .0)
     where
-      lengths : (leb 12 (length meant) ≡ true) × (leb (length meant) 50 ≡ true)
-      lengths = and-eq-true-iff _ _ .0 (h .0)
+      lengths : (12 ≤ length payload) × (length payload ≤ 50)
+      lengths = within-iff 12 50 _ .0 (h .0)
 
-      right : (leb (levelOf meant) 4 ≡ true) × (same (passwordOf meant) (passwordAt (levelOf meant) passwords) ≡ true)
+      right : (leb (levelOf payload) 4 ≡ true) × (same (passwordOf payload) (passwordAt (levelOf payload) passwords) ≡ true)
       right = and-eq-true-iff _ _ .0 (h .1 .1 .1 .1 .0)
 
-      go : (l : Lookup) → itemAsked meant ≡ l → isWritable l ≡ true → hasLength l (length (writtenValue meant)) ≡ true
-          → hasContent l (writtenValue meant) ≡ true → WriteHolds meant key passwords
+      go : (l : Lookup) → itemAsked payload ≡ l → isWritable l ≡ true → hasLength l (length (writtenValue payload)) ≡ true
+          → hasContent l (writtenValue payload) ≡ true → WriteHolds payload key passwords
       go NotListed e w n c = absurd (false≢true w)
       go (Listed item) e w n c =
-          let content = content-allowed (item .kind) (writtenValue meant) .0 (allowed _ c) in
+          let content = content-allowed (item .kind) (writtenValue payload) .0 (allowed _ c) in
           record {
-            least = leb-true _ _ (lengths .0);
-            most = leb-true _ _ (lengths .1);
+            least = lengths .0;
+            most = lengths .1;
             item = item;
             listed = e;
             writable = w;
@@ -128,14 +130,14 @@ module _ (meant : List ℕ) (key : Bool) (passwords : List ℕ) where
             range = content .1;
           }
 
-  pub holds-write : WriteHolds meant key passwords → AllHold (checksOf WriteData meant key passwords)
-  unfolding checksOf itemAsked within authorised
+  pub holds-write : WriteHolds payload key passwords → AllHold (checksOf WriteData payload key passwords)
+  unfolding checksOf itemAsked authorised
   holds-write w =
-      let size : within 12 50 (length meant) ≡ true = rw (le-leb _ _ (w .least)) (le-leb _ _ (w .most)) in
-      let found : isListed (itemAsked meant) ≡ true = rw (w .listed) in
-      let writable : isWritable (itemAsked meant) ≡ true = rw (w .listed) (w .writable) in
-      let right : authorised (levelOf meant) (passwordOf meant) passwords ≡ true = rw (le-leb _ _ (w .level)) (equal-same _ _ (w .password)) in
-      let long : hasLength (itemAsked meant) (length (writtenValue meant)) ≡ true = rw (w .listed) (eq-eqb _ _ (w .data-length)) in
-      let content : hasContent (itemAsked meant) (writtenValue meant) ≡ true =
-      rw (w .listed, content-allowed (w .item .kind) (writtenValue meant) .1 (w .decimal, w .range)) in
+      let size : within 12 50 (length payload) ≡ true = within-iff 12 50 _ .1 (w .least, w .most) in
+      let found : isListed (itemAsked payload) ≡ true = rw (w .listed) in
+      let writable : isWritable (itemAsked payload) ≡ true = rw (w .listed) (w .writable) in
+      let right : authorised 4 (levelOf payload) (passwordOf payload) passwords ≡ true = rw (le-leb _ _ (w .level)) (equal-same _ _ (w .password)) in
+      let long : hasLength (itemAsked payload) (length (writtenValue payload)) ≡ true = rw (w .listed) (eq-eqb _ _ (w .data-length)) in
+      let content : hasContent (itemAsked payload) (writtenValue payload) ≡ true =
+      rw (w .listed, content-allowed (w .item .kind) (writtenValue payload) .1 (w .decimal, w .range)) in
       (size, (found, (writable, (w .key-on, (right, (long, (content, tt)))))))

@@ -9,23 +9,23 @@ use Rattle.item.specs.declared.table.Lookup.{Lookup}
 
 -- What the table has for the identifier.
 unfoldable pub itemAsked : List ℕ → Lookup
-itemAsked meant = itemOf (identifierOf meant)
+itemAsked payload = itemOf (identifierOf payload)
 
 -- Data of 14: identifier, level, password, operator code, value. Of 18: identifier, old level and password, new level and password.
 unfoldable pub levelOf : List ℕ → ℕ
-levelOf meant = getD meant 4 0
+levelOf payload = getD payload 4 0
 
 unfoldable pub passwordOf : List ℕ → List ℕ
-passwordOf meant = part 5 3 meant
+passwordOf payload = part 5 3 payload
 
 unfoldable pub operatorOf : List ℕ → List ℕ
-operatorOf meant = part 8 4 meant
+operatorOf payload = part 8 4 payload
 
 unfoldable pub writtenValue : List ℕ → List ℕ
-writtenValue meant = drop 12 meant
+writtenValue payload = drop 12 payload
 
 unfoldable pub newLevelOf : List ℕ → ℕ
-newLevelOf meant = getD meant 8 0
+newLevelOf payload = getD payload 8 0
 
 unfoldable pub newPasswordOf : List ℕ → List ℕ
-newPasswordOf meant = part 9 3 meant
+newPasswordOf payload = part 9 3 payload

@@ -32,14 +32,14 @@ pub enum Decision {
 }
 
 // The decision on a command with these data.
-pub fn decide(command: Command, meant: &[u8], key: bool, passwords: [u8; 30]) -> Decision
-    ensures { λ r. ⌜ r ≡ decided command (now (meant .entry)) key passwords ⌝ }
+pub fn decide(command: Command, payload: &[u8], key: bool, passwords: [u8; 30]) -> Decision
+    ensures { λ r. ⌜ r ≡ decided command (now (payload .entry)) key passwords ⌝ }
 {
     match command {
-        Command::ReadData => read_data(meant),
-        Command::ReadAddress => read_address(meant),
-        Command::WriteData => write_data(meant, key, passwords),
-        Command::WriteAddress => write_address(meant, key),
-        Command::ChangePassword => change_password(meant, key, passwords),
+        Command::ReadData => read_data(payload),
+        Command::ReadAddress => read_address(payload),
+        Command::WriteData => write_data(payload, key, passwords),
+        Command::WriteAddress => write_address(payload, key),
+        Command::ChangePassword => change_password(payload, key, passwords),
     }
 }

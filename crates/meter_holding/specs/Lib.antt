@@ -1,4 +1,2 @@
-pub mod Columns
-pub mod ColumnsLaws
 pub mod Holding
 pub mod HoldingLaws

@@ -5,7 +5,7 @@ ghost use mathlib.Core.Path.{_≡_};
 ghost use Prim.Native.Nat.{_+_, _*_, _≤_, _<_};
 ghost use lib.ListN.{length};
 ghost use Rattle.laws.specs.Memory.{over};
-ghost use Rattle.meter_holding.specs.Columns.{columnBytes, columnsBytes};
+ghost use Rattle.energy.specs.Columns.{columnBytes, columnsBytes};
 
 // Writes one column at `count` rows from `row` on to the front of the output buffer.
 fn write_column(rows: Rows, rate: usize, row: usize, count: usize, out: &mut [u8])

@@ -1,7 +1,7 @@
 // What a meter holds: the value of each item, the ranges that document 01 sets, and the registers of a fresh meter. Of a meter only
 // its address and its registers are looked at, beside both directions' readings.
 mod columns;
-mod place;
+mod location;
 
 use columns::write_columns;
 use energy::Rows;
@@ -11,15 +11,15 @@ use item::table::Lookup;
 use item::table::item_of;
 use item_address::is_good;
 use item_decimal::all_decimal;
-use place::Place;
-use place::place_of;
+use location::Location;
+use location::location_of;
 ghost use mathlib.Core.Path.{_≡_};
 ghost use Prim.Native.Nat.{_+_, _≤_};
 ghost use lib.ListN.{length};
 ghost use Rattle.laws.specs.Memory.{outcome, over};
 ghost use Rattle.laws.specs.Part.{withPart};
-ghost use Rattle.meter_holding.specs.Holding.{placeOf, valueHeld, withinRanges, freshRegisters, valueWritten, registersAfter};
-ghost use Rattle.meter_holding.specs.HoldingLaws.{Lies};
+ghost use Rattle.meter_holding.specs.Holding.{locationOf, valueHeld, withinRanges, freshRegisters, valueWritten, registersAfter};
+ghost use Rattle.meter_holding.specs.HoldingLaws.{FitsAt};
 
 // Date 00-01-01 with WW 06, time zero, period 15, slip 1, meter number zero, first settlement day 0100, others 9999.
 const FRESH_REGISTERS: [u8; 21] = [
@@ -88,14 +88,14 @@ fn write_held(
     reverse: Rows,
     out: &mut [u8],
 )
-    requires { ⌜ Lies (item .length) (placeOf (item .kind)) ⌝ }
+    requires { ⌜ FitsAt (item .length) (locationOf (item .kind)) ⌝ }
     requires { ⌜ item .length ≤ length (now out) ⌝ }
     ensures { λ _. ⌜ now (out .exit) ≡ over (valueHeld item address registers forward reverse) (now (out .entry)) ⌝ }
 {
     let kind = item.kind;
-    let place = place_of(kind);
-    match place {
-        Place::Readings {
+    let location = location_of(kind);
+    match location {
+        Location::Readings {
             direction,
             rate,
             rates,
@@ -108,10 +108,10 @@ fn write_held(
             }
             write_columns(reverse, rate, rates, row, rows, out);
         }
-        Place::OwnAddress => {
+        Location::OwnAddress => {
             bytes::copy(&address, out);
         }
-        Place::Register(at) => {
+        Location::Register(at) => {
             let end = at + item.length;
             bytes::copy(&registers[at..end], out);
         }
@@ -161,10 +161,10 @@ pub fn with_value(registers: [u8; 21], identifier: u32, value: &[u8]) -> [u8; 21
         return registers;
     }
     let kind = item.kind;
-    let place = place_of(kind);
-    match place {
-        Place::Readings { .. } => registers,
-        Place::OwnAddress => registers,
-        Place::Register(at) => put(registers, at, value),
+    let location = location_of(kind);
+    match location {
+        Location::Readings { .. } => registers,
+        Location::OwnAddress => registers,
+        Location::Register(at) => put(registers, at, value),
     }
 }

@@ -12,7 +12,7 @@ use Rattle.reader_allowed.specs.declared.Admission.{Admission}
 use Rattle.reader.specs.declared.Request.{Request}
 
 -- What the type says of a request's arrays.
-pub record Sized (request : Request) : Type 0 where
+pub record RequestSized (request : Request) : Type 0 where
   pub address : length (request .address) ≡ 6
   pub password : length (request .password) ≡ 3
   pub operator : length (request .operator) ≡ 4

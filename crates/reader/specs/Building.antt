@@ -3,19 +3,30 @@ use Prim.Native.Nat.{ℕ, _≤_}
 use mathlib.Core.List.{List, [], _∷_, _++_}
 use lib.ListN.{length, replicate}
 use lib.Dec.{leb}
-use Rattle.laws.specs.Memory.{Outcome, outcome, over, pick}
+use Rattle.laws.specs.Memory.{Outcome, outcome, over}
+use Rattle.laws.specs.Test.{pick}
 use Rattle.frame.specs.Refusals.{shortMemory, notAllowed}
 use Rattle.frame.specs.Frame.{frameFor}
 use Rattle.item_address.specs.Address.{wildcards}
 use Rattle.item_identifier.specs.Identifier.{identifierBytes}
-use Rattle.reader_judgement.specs.Judging.{controlFor}
+use Rattle.item_command.specs.Command.{controlFor}
+use Rattle.reader_judgement.specs.Judging.{commandFor}
 use Rattle.reader_judgement.specs.declared.Action.{Action}
 use Rattle.reader_judgement.specs.declared.Action.the-variants.{ReadData, ReadAddress, WriteData}
+use Rattle.reader_allowed.specs.Allowed.{mostValue}
 use Rattle.reader.specs.Allowed.{requestValue, isAllowed}
 use Rattle.reader.specs.declared.Request.{Request}
 use Rattle.reader.specs.declared.build.Payload.{Payload}
 use Rattle.reader.specs.declared.Built.{Built}
 use Rattle.reader.specs.declared.Built.the-variants.{Length, Refused}
+
+-- The least memory for a request to be built in.
+abbrev pub requestMemory : ℕ
+requestMemory = 66
+
+-- The most data bytes of a request: twelve and the value.
+abbrev pub mostData : ℕ
+mostData = 50
 
 -- Four FE.
 abbrev pub wakeUp : List ℕ
@@ -35,20 +46,20 @@ sentData WriteData request =
     identifierBytes (request .identifier)
     ++ (request .level ∷ (request .password ++ (request .operator ++ requestValue request)))
 
--- The data at the front of an array of 50 that is zero behind them, with their length.
+-- The data at the front of an array that is zero behind them, with their length.
 unfoldable pub payloadOf : List ℕ → Payload
-payloadOf meant = record { meant = over meant (replicate 50 0); count = length meant }
+payloadOf bytes = record { bytes = over bytes (replicate mostData 0); count = length bytes }
 
 -- A value to be written has at most 38 bytes.
 abbrev pub Counts : Action → Request → Type 0
 Counts ReadData request = Unit
 Counts ReadAddress request = Unit
-Counts WriteData request = request .count ≤ 38
+Counts WriteData request = request .count ≤ mostValue
 
 -- The frame of a request.
 unfoldable pub requestFrame : Request → List ℕ
 requestFrame request =
-    frameFor (sentTo (request .action) (request .address)) (controlFor (request .action)) (sentData (request .action) request)
+    frameFor (sentTo (request .action) (request .address)) (controlFor (commandFor (request .action))) (sentData (request .action) request)
 
 -- A request is built with four FE in front.
 unfoldable pub requestBytes : Request → List ℕ
@@ -57,7 +68,7 @@ requestBytes request = wakeUp ++ requestFrame request
 -- The outcome of building: 1 under 66 bytes of memory, then 5 for a request that is not allowed, else its bytes over the front.
 unfoldable pub built : Request → List ℕ → Outcome Built
 built request m =
-    pick (leb 66 (length m))
+    pick (leb requestMemory (length m))
     (pick (isAllowed request)
     (outcome (Length (length (requestBytes request))) (over (requestBytes request) m))
     (outcome (Refused notAllowed) m))

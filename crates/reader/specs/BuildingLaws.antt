@@ -8,7 +8,7 @@ use lib.ListN.{length, take, drop, replicate, length-append, length-drop}
 use lib.Seq.{take-at, length-take-le}
 use borrow.Author.Tests.{le-leb}
 use Rattle.laws.specs.Memory.{Outcome, outcome, over}
-use Rattle.laws.specs.MemoryLaws.{over-length, lent-over, copied}
+use Rattle.laws.specs.MemoryLaws.{over-length, lent-over}
 use Rattle.frame.specs.FrameLaws.{frame-for-length}
 use Rattle.frame.specs.Frame.{frameFor}
 use Rattle.frame_parts.specs.Writing.{writing}
@@ -16,12 +16,13 @@ use Rattle.frame_parts.specs.declared.Written.{Written}
 use Rattle.frame_parts.specs.declared.Written.the-variants as written
 use Rattle.item_identifier.specs.IdentifierLaws.{identifier-four}
 use Rattle.item_identifier.specs.Identifier.{identifierBytes}
-use Rattle.reader_judgement.specs.Judging.{controlFor}
+use Rattle.item_command.specs.Command.{controlFor}
+use Rattle.reader_judgement.specs.Judging.{commandFor}
 use Rattle.reader_judgement.specs.declared.Action.{Action}
 use Rattle.reader_judgement.specs.declared.Action.the-variants.{ReadData, ReadAddress, WriteData}
-use Rattle.reader.specs.Allowed.{Sized, requestValue, isAllowed}
-use Rattle.reader.specs.AllowedLaws.{admitted-write}
-use Rattle.reader.specs.Building.{wakeUp, sentTo, sentData, payloadOf, Counts, requestFrame, requestBytes, built}
+use Rattle.reader.specs.Allowed.{RequestSized, requestValue, isAllowed}
+use Rattle.reader.specs.AllowedWords.{written-few, admitted-write}
+use Rattle.reader.specs.Building.{mostData, wakeUp, sentTo, sentData, payloadOf, Counts, requestFrame, requestBytes, built}
 use Rattle.reader.specs.declared.Request.{Request}
 use Rattle.reader.specs.declared.Built.the-variants.{Length}
 use Rattle.reader.specs.declared.build.Payload.{Payload}
@@ -48,10 +49,10 @@ allowed-counts request h = of-action (request .action) refl
     of-action : (action : Action) → request .action ≡ action → Counts action request
     of-action ReadData e = tt
     of-action ReadAddress e = tt
-    of-action WriteData e = admitted-write request h e .few
+    of-action WriteData e = written-few request (admitted-write request h e)
 
 -- An allowed request has at most 50 data bytes.
-pub request-length : (request : Request) → Sized request → isAllowed request ≡ true → length (sentData (request .action) request) ≤ 50
+pub request-length : (request : Request) → RequestSized request → isAllowed request ≡ true → length (sentData (request .action) request) ≤ 50
 unfolding sentData
 request-length request sized h = of-action (request .action) refl
   where
@@ -59,7 +60,7 @@ request-length request sized h = of-action (request .action) refl
     of-action ReadData e = omega (arith, identifier-four (request .identifier))
     of-action ReadAddress e = omega arith
     of-action WriteData e =
-        let few = admitted-write request h e .few in
+        let few = written-few request (admitted-write request h e) in
         omega (arith, write-length request (sized .password) (sized .operator) (omega (arith, sized .value)))
 
 -- An address field of six bytes is sent.
@@ -74,60 +75,55 @@ pub request-bytes-length : (request : Request) → length (request .address) ≡
 unfolding requestBytes requestFrame
 request-bytes-length request six =
     let action = request .action in
-    let framed = frame-for-length (sentTo action (request .address)) (controlFor action) (sentData action request) (sent-six action (request .address) six) in
+    let framed = frame-for-length (sentTo action (request .address)) (controlFor (commandFor action)) (sentData action request) (sent-six action (request .address) six) in
     omega (arith, framed)
 
 -- An array with the data at its front, and their count.
-pub payload-is : (meant : List ℕ) {a : List ℕ} {n : ℕ} → a ≡ over meant (replicate 50 0) → n ≡ length meant
-    → record { meant = a; count = n } ≡ payloadOf meant
+pub payload-is : (bytes : List ℕ) {a : List ℕ} {n : ℕ} → a ≡ over bytes (replicate mostData 0) → n ≡ length bytes
+    → record { bytes = a; count = n } ≡ payloadOf bytes
 unfolding payloadOf
-payload-is meant p q = rw (p, q)
+payload-is bytes p q = rw (p, q)
 
--- The count is that of the data, and they are read off the front of the array.
-pub payload-count : (meant : List ℕ) {payload : Payload} → payload ≡ payloadOf meant → payload .count ≡ length meant
+-- The count is that of the data, which stand at the front of the array and are read off it.
+pub payload-count : (bytes : List ℕ) {payload : Payload} → payload ≡ payloadOf bytes → payload .count ≡ length bytes
 unfolding payloadOf
-payload-count meant e = ap (λ (p : Payload). p .count) e
+payload-count bytes e = ap (λ (p : Payload). p .count) e
 
-payload-front : (meant : List ℕ) → take (payloadOf meant .count) (payloadOf meant .meant) ≡ meant
+pub payload-array : (bytes : List ℕ) {payload : Payload} → payload ≡ payloadOf bytes → payload .bytes ≡ over bytes (replicate mostData 0)
 unfolding payloadOf
-payload-front meant = take-at meant (drop (length meant) (replicate 50 0)) (length meant) refl
+payload-array bytes e = ap (λ (p : Payload). p .bytes) e
 
--- Bytes copied to a part of an array that is lent from place `n` on, just behind what is written.
-pub copied-behind : (n : ℕ) (xs ys m : List ℕ) {o y : List ℕ} → length xs ≡ n → n + length ys ≤ length m → o ≡ over xs m
-    → y ≡ take (length ys) ys ++ drop (length ys) (take (length m - n) (drop n o))
-    → take n o ++ (y ++ drop (length m - n) (drop n o)) ≡ over (xs ++ ys) m
-copied-behind n xs ys m {o} {y} e h p q =
-    let same : length o ≡ length m = ap length p ∙ over-length xs m (omega arith) in
-    let whole : y ≡ over ys (take (length m - n) (drop n o)) = q ∙ copied ys (take (length m - n) (drop n o)) in
-    rw (whole, ← same, p) (lent-over n xs ys m e h)
+payload-front : (bytes : List ℕ) → take (payloadOf bytes .count) (payloadOf bytes .bytes) ≡ bytes
+unfolding payloadOf
+payload-front bytes = take-at bytes (drop (length bytes) (replicate mostData 0)) (length bytes) refl
 
 -- A frame written behind four FE, for which there is room.
-module _ (address : List ℕ) (control : ℕ) (meant m : List ℕ) (six : length address ≡ 6) (few : length meant ≤ 50) (room : 66 ≤ length m) where
+module _ (address : List ℕ) (control : ℕ) (bytes m : List ℕ) (six : length address ≡ 6) (few : length bytes ≤ 50) (room : 66 ≤ length m) where
   module _ (o : List ℕ) (p : o ≡ over wakeUp m) (r : Written) (y : List ℕ)
-      (w : outcome r y ≡ writing address control meant (take (length o - 4) (drop 4 o))) where
+      (w : outcome r y ≡ writing address control bytes (take (length o - 4) (drop 4 o))) where
     -- It is not refused.
-    frame-written : outcome r y ≡ outcome (written.Length (12 + length meant)) (over (frameFor address control meant) (take (length o - 4) (drop 4 o)))
+    frame-written : outcome r y ≡ outcome (written.Length (12 + length bytes)) (over (frameFor address control bytes) (take (length o - 4) (drop 4 o)))
     unfolding writing
     frame-written =
         let same : length o ≡ length m = ap length p ∙ over-length wakeUp m (omega arith) in
         let rest : length (take (length o - 4) (drop 4 o)) ≡ length o - 4 = length-take-le (length o - 4) (drop 4 o) (simp length-drop (omega arith)) in
-        w ∙ rw (le-leb (length meant) 200 (omega arith), le-leb (12 + length meant) (length (take (length o - 4) (drop 4 o))) (omega arith))
+        w ∙ rw (le-leb (length bytes) 200 (omega arith), le-leb (12 + length bytes) (length (take (length o - 4) (drop 4 o))) (omega arith))
 
     -- Its length is answered, and it stands behind the four FE.
-    pub written-length : r ≡ written.Length (12 + length meant)
+    pub written-length : r ≡ written.Length (12 + length bytes)
     written-length = ap (λ (o : Outcome Written). o .answer) frame-written
 
-    pub written-over : take 4 o ++ (y ++ drop (length o - 4) (drop 4 o)) ≡ over (wakeUp ++ frameFor address control meant) m
+    pub written-over : take 4 o ++ (y ++ drop (length o - 4) (drop 4 o)) ≡ over (wakeUp ++ frameFor address control bytes) m
     written-over =
         rw (ap (λ (o : Outcome Written). o .memory) frame-written, p)
-        (lent-over 4 wakeUp (frameFor address control meant) m refl (omega (arith, frame-for-length address control meant six)))
+        (lent-over 4 wakeUp (frameFor address control bytes) m refl (omega (arith, frame-for-length address control bytes six)))
 
 -- The parts of an allowed request, as the code makes them, written where there is room.
 module _ (request : Request) (m : List ℕ) (six : length (request .address) ≡ 6) (room : 66 ≤ length m) (allowed : isAllowed request ≡ true)
     {address : List ℕ} {control : ℕ} {payload : Payload} (p : address ≡ sentTo (request .action) (request .address))
-    (q : control ≡ controlFor (request .action)) (r : payload ≡ payloadOf (sentData (request .action) request)) where
+    (q : control ≡ controlFor (commandFor (request .action))) (r : payload ≡ payloadOf (sentData (request .action) request)) where
   -- Four FE and the frame are the request's bytes.
-  request-made : wakeUp ++ frameFor address control (take (payload .count) (payload .meant)) ≡ requestBytes request
+  request-made : wakeUp ++ frameFor address control (take (payload .count) (payload .bytes)) ≡ requestBytes request
   unfolding requestBytes requestFrame
   request-made = rw (p, q, r, payload-front)
 
@@ -137,7 +133,7 @@ module _ (request : Request) (m : List ℕ) (six : length (request .address) ≡
 
   -- What the writing leaves is what is built.
   pub built-written : {n : ℕ} {last : List ℕ}
-      → outcome n last ≡ outcome (16 + payload .count) (over (wakeUp ++ frameFor address control (take (payload .count) (payload .meant))) m)
+      → outcome n last ≡ outcome (16 + payload .count) (over (wakeUp ++ frameFor address control (take (payload .count) (payload .bytes))) m)
       → outcome (Length n) last ≡ built request m
   unfolding built
   built-written e =

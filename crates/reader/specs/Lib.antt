@@ -1,5 +1,4 @@
 pub mod Allowed
-pub mod AllowedLaws
 pub mod AllowedWords
 pub mod Building
 pub mod BuildingLaws

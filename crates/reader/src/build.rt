@@ -5,17 +5,21 @@ use item_address::WILDCARD;
 use item_identifier::identifier_bytes;
 use reader_judgement::Action;
 ghost use mathlib.Core.Path.{_≡_};
-ghost use mathlib.Core.List.{_++_};
-ghost use Prim.Native.Nat.{_+_, _≤_};
+ghost use mathlib.Core.List.{List, _++_};
+ghost use Prim.Native.Nat.{ℕ, _+_, _≤_};
 ghost use lib.ListN.{length, take};
 ghost use Rattle.laws.specs.Memory.{outcome, over};
 ghost use Rattle.frame.specs.Frame.{frameFor};
-ghost use Rattle.reader.specs.Building.{wakeUp, sentTo, sentData, payloadOf, Counts};
+ghost use Rattle.reader_allowed.specs.Allowed.{mostValue};
+ghost use Rattle.reader.specs.Building.{requestMemory, mostData, wakeUp, sentTo, sentData, payloadOf, Counts};
 ghost use Rattle.item_identifier.specs.Identifier.{identifierBytes};
 
-// The data of a request as they are meant: the first `count` of the bytes.
+// The most data bytes of a request: twelve and the value.
+const MOST_DATA: usize = 50;
+
+// The data of a request, unmasked: the first `count` of the bytes.
 pub(crate) struct Payload {
-    pub meant: [u8; 50],
+    pub bytes: [u8; MOST_DATA],
     pub count: usize,
 }
 
@@ -30,36 +34,45 @@ pub(crate) fn sent_to(action: Action, address: [u8; 6]) -> [u8; 6]
     }
 }
 
-// The data of a write: identifier, level, password, operator code, value.
-fn write_payload(request: Request) -> Payload
-    requires { ⌜ request .count ≤ 38 ⌝ }
-    ensures { λ r. ⌜ r ≡ payloadOf (sentData Action.WriteData request) ⌝ }
-{
-    let mut meant = [0u8; 50];
-    let identifier = identifier_bytes(request.identifier);
-    let password = request.password;
-    let operator = request.operator;
-    let value = request.value;
-    let count = request.count;
-    bytes::copy(&identifier, &mut meant);
-    meant[4] = request.level;
-    bytes::copy(&password, &mut meant[5..]);
-    bytes::copy(&operator, &mut meant[8..]);
-    bytes::copy(&value[..count], &mut meant[12..]);
-    Payload {
-        meant,
-        count: 12 + count,
-    }
-}
-
 // The data of a read: the identifier.
 fn read_payload(identifier: u32) -> Payload
     ensures { λ r. ⌜ r ≡ payloadOf (identifierBytes identifier) ⌝ }
 {
-    let mut meant = [0u8; 50];
+    let mut bytes = [0u8; MOST_DATA];
     let di = identifier_bytes(identifier);
-    bytes::copy(&di, &mut meant);
-    Payload { meant, count: 4 }
+    bytes::copy(&di, &mut bytes);
+    Payload { bytes, count: 4 }
+}
+
+// Data with a part more behind them.
+fn with_part(payload: Payload, part: &[u8]) -> Payload
+    requires { ⌜ payload .count + length (now part) ≤ mostData ⌝ }
+    ensures { λ r. ⌜ ((bytes : List ℕ) → payload ≡ payloadOf bytes → r ≡ payloadOf (bytes ++ now (part .entry))) ⌝ }
+{
+    let mut bytes = payload.bytes;
+    let count = payload.count;
+    bytes::copy(part, &mut bytes[count..]);
+    Payload {
+        bytes,
+        count: count + part.len(),
+    }
+}
+
+// The data of a write: identifier, level, password, operator code, value.
+fn write_payload(request: Request) -> Payload
+    requires { ⌜ request .count ≤ mostValue ⌝ }
+    ensures { λ r. ⌜ r ≡ payloadOf (sentData Action.WriteData request) ⌝ }
+{
+    let level = [request.level];
+    let password = request.password;
+    let operator = request.operator;
+    let value = request.value;
+    let count = request.count;
+    let named = read_payload(request.identifier);
+    let with_level = with_part(named, &level);
+    let with_password = with_part(with_level, &password);
+    let with_operator = with_part(with_password, &operator);
+    with_part(with_operator, &value[..count])
 }
 
 // The data of a request.
@@ -71,7 +84,7 @@ pub(crate) fn payload_of(request: Request) -> Payload
     match action {
         Action::ReadData => read_payload(request.identifier),
         Action::ReadAddress => Payload {
-            meant: [0u8; 50],
+            bytes: [0u8; MOST_DATA],
             count: 0,
         },
         Action::WriteData => write_payload(request),
@@ -85,10 +98,10 @@ pub(crate) fn write_request(
     payload: Payload,
     out: &mut [u8],
 ) -> usize
-    requires { ⌜ (payload .count ≤ 50) × (66 ≤ length (now out)) ⌝ }
-    ensures { λ r. ⌜ outcome r (now (out .exit)) ≡ outcome (16 + payload .count) (over (wakeUp ++ frameFor address control (take (payload .count) (payload .meant))) (now (out .entry))) ⌝ }
+    requires { ⌜ (payload .count ≤ mostData) × (requestMemory ≤ length (now out)) ⌝ }
+    ensures { λ r. ⌜ outcome r (now (out .exit)) ≡ outcome (16 + payload .count) (over (wakeUp ++ frameFor address control (take (payload .count) (payload .bytes))) (now (out .entry))) ⌝ }
 {
-    let meant = payload.meant;
+    let bytes = payload.bytes;
     let count = payload.count;
     out[0] = 0xFE;
     out[1] = 0xFE;
@@ -97,7 +110,7 @@ pub(crate) fn write_request(
     let Written::Length(n) = frame_parts::write_frame(
         address,
         control,
-        &meant[..count],
+        &bytes[..count],
         &mut out[4..],
     ) else {
         return 0;

@@ -11,11 +11,13 @@ use frame::refusal::NOT_ONE_FRAME;
 use frame::refusal::SHORT_MEMORY;
 use frame_parts::address_of;
 use frame_parts::data_of;
+use item_command::control_of;
 use reader_allowed::Admission;
+use reader_allowed::MOST_VALUE;
 use reader_allowed::admit;
 use reader_judgement::Action;
 use reader_judgement::Judgement;
-use reader_judgement::control_of;
+use reader_judgement::command_for;
 use reader_judgement::is_answer;
 use reader_judgement::judge_data;
 use reader_judgement::value_start;
@@ -24,7 +26,12 @@ ghost use lib.ListN.{drop};
 ghost use Rattle.laws.specs.Memory.{outcome};
 ghost use Rattle.reader.specs.Allowed.{admission};
 ghost use Rattle.reader.specs.Building.{built};
-ghost use Rattle.reader.specs.Judging.{Fits, written, judged};
+ghost use Rattle.reader.specs.Judging.{isJudged, Fits, written, judged};
+
+// The least memory for a request to be built in.
+pub const REQUEST_MEMORY: usize = 66;
+// The least memory for the value of a reply.
+pub const VALUE_MEMORY: usize = 196;
 
 // A request. What its action does not use is ignored.
 pub struct Request {
@@ -37,7 +44,7 @@ pub struct Request {
     pub password: [u8; 3],
     pub operator: [u8; 4],
     // The value to be written is the first `count` of these bytes.
-    pub value: [u8; 38],
+    pub value: [u8; MOST_VALUE],
     pub count: usize,
 }
 
@@ -66,14 +73,24 @@ fn admission_of(request: Request) -> Admission
     )
 }
 
+// Whether a reply to this request is judged: the request is allowed, and answered by one reply.
+fn is_judged(request: Request) -> bool
+    ensures { λ r. ⌜ r ≡ isJudged request ⌝ }
+{
+    let Admission::Allowed = admission_of(request) else {
+        return false;
+    };
+    true
+}
+
 // Writes the value of a good reply to the front of the output buffer.
-fn deliver(decided: Judgement, start: usize, meant: &[u8], out: &mut [u8]) -> Judgement
-    requires { ⌜ Fits decided start (now meant) (now out) ⌝ }
-    ensures { λ r. ⌜ outcome r (now (out .exit)) ≡ outcome decided (written decided (drop start (now (meant .entry))) (now (out .entry))) ⌝ }
+fn deliver(decided: Judgement, start: usize, payload: &[u8], out: &mut [u8]) -> Judgement
+    requires { ⌜ Fits decided start (now payload) (now out) ⌝ }
+    ensures { λ r. ⌜ outcome r (now (out .exit)) ≡ outcome decided (written decided (drop start (now (payload .entry))) (now (out .entry))) ⌝ }
 {
     match decided {
         Judgement::Value(n) => {
-            bytes::copy(&meant[start..], out);
+            bytes::copy(&payload[start..], out);
             Judgement::Value(n)
         }
         Judgement::Error(byte) => Judgement::Error(byte),
@@ -87,7 +104,7 @@ impl Request {
     pub fn build(self, out: &mut [u8]) -> Built
         ensures { λ r. ⌜ outcome r (now (out .exit)) ≡ built self (now (out .entry)) ⌝ }
     {
-        if out.len() < 66 {
+        if out.len() < REQUEST_MEMORY {
             return Built::Refused(SHORT_MEMORY);
         }
         let Admission::Allowed = admission_of(self) else {
@@ -97,7 +114,7 @@ impl Request {
         let address = self.address;
         let n = write_request(
             sent_to(action, address),
-            control_of(action),
+            control_of(command_for(action)),
             payload_of(self),
             out,
         );
@@ -109,12 +126,12 @@ impl Request {
     pub fn judge(self, bytes: &[u8], out: &mut [u8]) -> Judgement
         ensures { λ r. ⌜ outcome r (now (out .exit)) ≡ judged self (now (bytes .entry)) (now (out .entry)) ⌝ }
     {
-        if out.len() < 196 {
+        if out.len() < VALUE_MEMORY {
             return Judgement::Refused(SHORT_MEMORY);
         }
-        let Admission::Allowed = admission_of(self) else {
+        if !is_judged(self) {
             return Judgement::Refused(NOT_ALLOWED);
-        };
+        }
         if !frame::is_frame(bytes) {
             return Judgement::Refused(NOT_ONE_FRAME);
         }
@@ -125,9 +142,9 @@ impl Request {
         if !is_answer(action, address, control, from) {
             return Judgement::Refused(NOT_AN_ANSWER);
         }
-        let meant = data_of(bytes);
+        let payload = data_of(bytes);
         let length = bytes[9] as usize;
-        let decided = judge_data(action, self.identifier, control, from, &meant[..length]);
-        deliver(decided, value_start(action), &meant[..length], out)
+        let decided = judge_data(action, self.identifier, control, from, &payload[..length]);
+        deliver(decided, value_start(action), &payload[..length], out)
     }
 }

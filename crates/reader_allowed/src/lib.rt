@@ -12,6 +12,9 @@ ghost use mathlib.Core.List.{[]};
 ghost use Rattle.laws.specs.Checks.{firstFailing};
 ghost use Rattle.reader_allowed.specs.Allowed.{addressAllowed, conditionsOf, valueConditions, admission};
 
+// The most bytes of a value that is written.
+pub const MOST_VALUE: usize = 38;
+
 // Why a request is not allowed.
 pub enum Cause {
     Address,
@@ -53,7 +56,7 @@ fn read_admission(address: [u8; 6], identifier: u32) -> Admission
 }
 
 // What is left of a write of a listed item: writable, the level, the value's length, then its content, decimal before ranges.
-fn value_admission(level: u8, value: [u8; 38], count: usize, item: Item) -> Admission
+fn value_admission(level: u8, value: [u8; MOST_VALUE], count: usize, item: Item) -> Admission
     ensures { λ r. ⌜ r ≡ firstFailing Admission.Refused (valueConditions level value count item) Admission.Allowed ⌝ }
 {
     if !item.writable {
@@ -62,7 +65,7 @@ fn value_admission(level: u8, value: [u8; 38], count: usize, item: Item) -> Admi
     if 9 < level {
         return Admission::Refused(Cause::Level);
     }
-    if 38 < count {
+    if MOST_VALUE < count {
         return Admission::Refused(Cause::Length);
     }
     if count != item.length {
@@ -82,7 +85,7 @@ fn write_admission(
     address: [u8; 6],
     identifier: u32,
     level: u8,
-    value: [u8; 38],
+    value: [u8; MOST_VALUE],
     count: usize,
 ) -> Admission
     ensures { λ r. ⌜ r ≡ firstFailing Admission.Refused (conditionsOf Action.WriteData address identifier level value count) Admission.Allowed ⌝ }
@@ -103,7 +106,7 @@ pub fn admit(
     address: [u8; 6],
     identifier: u32,
     level: u8,
-    value: [u8; 38],
+    value: [u8; MOST_VALUE],
     count: usize,
 ) -> Admission
     ensures { λ r. ⌜ r ≡ admission action address identifier level value count ⌝ }

@@ -1,9 +1,10 @@
 // Whether a reply's control code and address may answer an action.
 use crate::Action;
-use crate::control_of;
+use crate::command_for;
 use item_address::is_good;
 use item_address::is_short;
 use item_address::short_matches;
+use item_command::control_of;
 use item_command::reply::reply_to;
 use item_same::same_bytes;
 ghost use mathlib.Core.Path.{_≡_};
@@ -24,7 +25,7 @@ fn may_fail(action: Action) -> bool
 pub(crate) fn is_normal(action: Action, control: u8) -> bool
     ensures { λ r. ⌜ r ≡ isNormal action control ⌝ }
 {
-    control == reply_to(control_of(action), false)
+    control == reply_to(control_of(command_for(action)), false)
 }
 
 // Whether a control code is that of the error reply to an action.
@@ -32,7 +33,7 @@ pub(crate) fn is_error(action: Action, control: u8) -> bool
     ensures { λ r. ⌜ r ≡ isError action control ⌝ }
 {
     if may_fail(action) {
-        return control == reply_to(control_of(action), true);
+        return control == reply_to(control_of(command_for(action)), true);
     }
     false
 }

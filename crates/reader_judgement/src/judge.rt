@@ -16,27 +16,27 @@ ghost use Rattle.laws.specs.Checks.{firstFailing};
 ghost use Rattle.reader_judgement.specs.Judging.{errorChecks, normalChecks};
 
 // An error reply: L 1, and its byte.
-pub(crate) fn judge_error(meant: &[u8]) -> Judgement
-    ensures { λ r. ⌜ r ≡ firstFailing Judgement.Refused (errorChecks (now (meant .entry))) (Judgement.Error (getD (now (meant .entry)) 0 0)) ⌝ }
+pub(crate) fn judge_error(payload: &[u8]) -> Judgement
+    ensures { λ r. ⌜ r ≡ firstFailing Judgement.Refused (errorChecks (now (payload .entry))) (Judgement.Error (getD (now (payload .entry)) 0 0)) ⌝ }
 {
-    if meant.len() != 1 {
+    if payload.len() != 1 {
         return Judgement::Refused(MALFORMED);
     }
-    Judgement::Error(meant[0])
+    Judgement::Error(payload[0])
 }
 
 // A 91: L of at least 4, the identifier, the value's length, every half byte.
-pub(crate) fn judge_read(identifier: u32, meant: &[u8]) -> Judgement
-    ensures { λ r. ⌜ r ≡ firstFailing Judgement.Refused (normalChecks Action.ReadData identifier [] (now (meant .entry))) (Judgement.Value (length (drop 4 (now (meant .entry))))) ⌝ }
+pub(crate) fn judge_read(identifier: u32, payload: &[u8]) -> Judgement
+    ensures { λ r. ⌜ r ≡ firstFailing Judgement.Refused (normalChecks Action.ReadData identifier [] (now (payload .entry))) (Judgement.Value (length (drop 4 (now (payload .entry))))) ⌝ }
 {
-    if meant.len() < 4 {
+    if payload.len() < 4 {
         return Judgement::Refused(MALFORMED);
     }
     let asked = identifier_bytes(identifier);
-    if !same_bytes(&meant[..4], &asked) {
+    if !same_bytes(&payload[..4], &asked) {
         return Judgement::Refused(NOT_AN_ANSWER);
     }
-    let value = &meant[4..];
+    let value = &payload[4..];
     let Lookup::Listed(item) = item_of(identifier) else {
         return Judgement::Refused(MALFORMED);
     };
@@ -50,16 +50,16 @@ pub(crate) fn judge_read(identifier: u32, meant: &[u8]) -> Judgement
 }
 
 // A 93: L 6, every half byte, its own address repeated, a good one.
-pub(crate) fn judge_address(from: [u8; 6], meant: &[u8]) -> Judgement
-    ensures { λ r. ⌜ r ≡ firstFailing Judgement.Refused (normalChecks Action.ReadAddress 0 from (now (meant .entry))) (Judgement.Value (length (now (meant .entry)))) ⌝ }
+pub(crate) fn judge_address(from: [u8; 6], payload: &[u8]) -> Judgement
+    ensures { λ r. ⌜ r ≡ firstFailing Judgement.Refused (normalChecks Action.ReadAddress 0 from (now (payload .entry))) (Judgement.Value (length (now (payload .entry)))) ⌝ }
 {
-    if meant.len() != 6 {
+    if payload.len() != 6 {
         return Judgement::Refused(MALFORMED);
     }
-    if !all_decimal(meant) {
+    if !all_decimal(payload) {
         return Judgement::Refused(MALFORMED);
     }
-    if !same_bytes(meant, &from) {
+    if !same_bytes(payload, &from) {
         return Judgement::Refused(MALFORMED);
     }
     if !is_good(from) {
@@ -69,10 +69,10 @@ pub(crate) fn judge_address(from: [u8; 6], meant: &[u8]) -> Judgement
 }
 
 // A 94: L 0.
-pub(crate) fn judge_written(meant: &[u8]) -> Judgement
-    ensures { λ r. ⌜ r ≡ firstFailing Judgement.Refused (normalChecks Action.WriteData 0 [] (now (meant .entry))) (Judgement.Value (length (now (meant .entry)))) ⌝ }
+pub(crate) fn judge_written(payload: &[u8]) -> Judgement
+    ensures { λ r. ⌜ r ≡ firstFailing Judgement.Refused (normalChecks Action.WriteData 0 [] (now (payload .entry))) (Judgement.Value (length (now (payload .entry)))) ⌝ }
 {
-    if meant.len() != 0 {
+    if payload.len() != 0 {
         return Judgement::Refused(MALFORMED);
     }
     Judgement::Value(0)

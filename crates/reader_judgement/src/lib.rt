@@ -5,20 +5,18 @@ mod judge;
 use answer::answers_from;
 use answer::is_error;
 use answer::is_normal;
+use item_command::Command;
 use judge::judge_address;
 use judge::judge_error;
 use judge::judge_read;
 use judge::judge_written;
 ghost use mathlib.Core.Path.{_≡_};
-ghost use Rattle.reader_judgement.specs.Judging.{controlFor, answers, verdict, valueStart};
+ghost use Rattle.reader_judgement.specs.Judging.{commandFor, answers, dataJudgement, valueStart};
 
 // What a request asks for.
 pub enum Action {
-    // 11
     ReadData,
-    // 13
     ReadAddress,
-    // 14
     WriteData,
 }
 
@@ -32,14 +30,14 @@ pub enum Judgement {
     Refused(u8),
 }
 
-// The control code of an action.
-pub fn control_of(action: Action) -> u8
-    ensures { λ r. ⌜ r ≡ controlFor action ⌝ }
+// The command that a meter knows an action as.
+pub fn command_for(action: Action) -> Command
+    ensures { λ r. ⌜ r ≡ commandFor action ⌝ }
 {
     match action {
-        Action::ReadData => 0x11,
-        Action::ReadAddress => 0x13,
-        Action::WriteData => 0x14,
+        Action::ReadData => Command::ReadData,
+        Action::ReadAddress => Command::ReadAddress,
+        Action::WriteData => Command::WriteData,
     }
 }
 
@@ -61,17 +59,17 @@ pub fn judge_data(
     identifier: u32,
     control: u8,
     from: [u8; 6],
-    meant: &[u8],
+    payload: &[u8],
 ) -> Judgement
-    ensures { λ r. ⌜ r ≡ verdict action identifier control from (now (meant .entry)) ⌝ }
+    ensures { λ r. ⌜ r ≡ dataJudgement action identifier control from (now (payload .entry)) ⌝ }
 {
     if is_error(action, control) {
-        return judge_error(meant);
+        return judge_error(payload);
     }
     match action {
-        Action::ReadData => judge_read(identifier, meant),
-        Action::ReadAddress => judge_address(from, meant),
-        Action::WriteData => judge_written(meant),
+        Action::ReadData => judge_read(identifier, payload),
+        Action::ReadAddress => judge_address(from, payload),
+        Action::WriteData => judge_written(payload),
     }
 }
 

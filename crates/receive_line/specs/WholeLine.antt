@@ -3,7 +3,8 @@ use Prim.Native.Nat.{ℕ, _-_, _^_}
 use mathlib.Core.List.{List, [], _∷_, _++_, map}
 use lib.ListN.{length}
 use lib.Dec.{leb}
-use Rattle.laws.specs.Memory.{Outcome, outcome, over, pick}
+use Rattle.laws.specs.Memory.{Outcome, outcome, over}
+use Rattle.laws.specs.Test.{pick}
 use Rattle.line_terms.specs.Line.{byte, silence}
 use Rattle.line_terms.specs.Places.{joined}
 use Rattle.line_terms.specs.Scan.{scan}

@@ -1,5 +1,6 @@
 // A whole recorded line, its end taken as a silence, as one C function: through the receiver's calls, and straight from the
 // slice. Both are held to one definition, so that they answer alike on every line. This is what the benchmark links.
+use frame::MOST_FRAME;
 use line::Answer;
 use line::Received;
 use line::Receiver;
@@ -45,7 +46,7 @@ fn receive_all(input: &[u8], out: &mut [u8]) -> Fed
             frames: 0,
         },
     };
-    let mut scratch = [0u8; 212];
+    let mut scratch = [0u8; MOST_FRAME];
     let mut at = 0;
     let mut i = 0;
     while i < input.len() {
@@ -75,7 +76,7 @@ pub extern "C" fn receive_line(input: &[u8], out: &mut [u8]) -> usize
     }
     let fed = receive_all(input, out);
     let at = fed.at;
-    let mut scratch = [0u8; 212];
+    let mut scratch = [0u8; MOST_FRAME];
     let received = fed.receiver.silence(&mut scratch);
     let answer = received.answer;
     match answer {

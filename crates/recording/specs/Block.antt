@@ -4,20 +4,21 @@ use mathlib.Core.List.{List}
 use mathlib.Core.Bool.{Bool}
 use lib.ListN.{length}
 use lib.Dec.{leb}
-use Rattle.laws.specs.Memory.{Outcome, outcome, over, pick}
+use Rattle.laws.specs.Memory.{Outcome, outcome, over}
+use Rattle.laws.specs.Test.{pick}
 use Rattle.frame.specs.Refusals.{shortMemory}
 use Rattle.line_terms.specs.Places.{joined}
-use Rattle.line_terms.specs.Scan.{Reading}
+use Rattle.line_terms.specs.Scan.{LineReading}
 use Rattle.line.specs.Drain.{readingFrom}
 use Rattle.recording.specs.declared.BlockAnswer.{BlockAnswer}
 use Rattle.recording.specs.declared.BlockAnswer.the-variants.{Refused, Delivered}
 
 -- What the bytes of a block read as; where the line has ended with them, with a silence behind them.
-unfoldable pub blockReading : List ℕ → Bool → Reading
+unfoldable pub blockReading : List ℕ → Bool → LineReading
 blockReading block ended = readingFrom 0 block ended
 
 -- The frames of a reading of so many bytes are delivered, end to end and counted; the rest that it keeps are the last of the bytes.
-unfoldable pub delivered : Reading → ℕ → List ℕ → Outcome BlockAnswer
+unfoldable pub delivered : LineReading → ℕ → List ℕ → Outcome BlockAnswer
 delivered d size m =
     outcome (Delivered (length (joined (d .frames))) (length (d .frames)) (size - length (d .kept))) (over (joined (d .frames)) m)
 

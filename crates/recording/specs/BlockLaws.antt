@@ -9,7 +9,7 @@ use lib.Seq.{take-at}
 use lib.Dec.{leb}
 use borrow.Author.Tests.{le-leb, lt-leb, leb-true, leb-false}
 use Rattle.laws.specs.Memory.{Outcome, outcome, over}
-use Rattle.laws.specs.MemoryLaws.{pick-cases}
+use Rattle.laws.specs.TestLaws.{pick-cases}
 use Rattle.frame.specs.RecognitionLaws.{open-most}
 use Rattle.line_terms.specs.Line.{byte, silence}
 use Rattle.line_terms.specs.Places.{joined}
@@ -57,17 +57,17 @@ unfolding blockReading readingFrom
 rest-most block ended = open-most _ (scan-kept-open 0 0 (symbols block ended))
 
 -- What the reading of a block has done that is not refused.
-pub record Delivers (block : List ℕ) (ended : Bool) (m₀ m : List ℕ) (bytes rest : ℕ) : Type 0 where
+pub record BlockDelivers (block : List ℕ) (ended : Bool) (m₀ m : List ℕ) (bytes rest : ℕ) : Type 0 where
   pub roomy : length block ≤ length m₀
   pub memory : m ≡ over (joined (blockReading block ended .frames)) m₀
   pub size : bytes ≡ length (joined (blockReading block ended .frames))
   pub place : rest ≡ length block - length (blockReading block ended .kept)
 
 pub read-delivers : (block : List ℕ) (ended : Bool) (m₀ m : List ℕ) (bytes frames rest : ℕ) →
-    outcome (Delivered bytes frames rest) m ≡ blockRead block ended m₀ → Delivers block ended m₀ m bytes rest
+    outcome (Delivered bytes frames rest) m ≡ blockRead block ended m₀ → BlockDelivers block ended m₀ m bytes rest
 unfolding blockRead delivered
 read-delivers block ended m₀ m bytes frames rest =
-    pick-cases (λ (o : Outcome BlockAnswer). outcome (Delivered bytes frames rest) m ≡ o → Delivers block ended m₀ m bytes rest)
+    pick-cases (λ (o : Outcome BlockAnswer). outcome (Delivered bytes frames rest) m ≡ o → BlockDelivers block ended m₀ m bytes rest)
     (leb (length block) (length m₀))
     (λ t e.
     let a = ap (λ (o : Outcome BlockAnswer). o .answer) e in
@@ -96,7 +96,7 @@ pub record Within (block m : List ℕ) (bytes rest : ℕ) : Type 0 where
   pub place : rest ≤ length block
   pub most : length block ≤ rest + 211
 
-module _ {block m₀ m : List ℕ} {ended : Bool} {bytes rest : ℕ} (d : Delivers block ended m₀ m bytes rest) where
+module _ {block m₀ m : List ℕ} {ended : Bool} {bytes rest : ℕ} (d : BlockDelivers block ended m₀ m bytes rest) where
   -- The frames delivered stand at the front of their memory.
   pub delivers-front : take bytes m ≡ joined (blockReading block ended .frames)
   delivers-front = rw (d .memory) (take-at (joined (blockReading block ended .frames)) _ bytes (sym (d .size)))

@@ -11,7 +11,7 @@ use lib.Seq.{take-append-seam}
 use Rattle.laws.specs.Memory.{Outcome, outcome, over}
 use Rattle.line_terms.specs.Line.{byte}
 use Rattle.line_terms.specs.Places.{joined}
-use Rattle.line_terms.specs.Scan.{Reading, scan}
+use Rattle.line_terms.specs.Scan.{LineReading, scan}
 use Rattle.line.specs.Demand3.{Exactly}
 use Rattle.line.specs.Drain.{symbols}
 use Rattle.recording.specs.Block.{blockReading, delivered, blockRead}
@@ -79,29 +79,29 @@ pub record ReadsTheLine (blocks : List Block) : Type 1 where
   pub counted : countedFrames blocks ≡ length (found .frames)
 
 -- What a block reads as that begins with a rest.
-abbrev pub readingOf : List ℕ → Block → Reading
-readingOf rest b = blockReading (rest ++ b .new) (b .ended)
+abbrev pub readingBehind : List ℕ → Block → LineReading
+readingBehind rest b = blockReading (rest ++ b .new) (b .ended)
 
 -- What one block leaves, delivers and counts.
 module _ {rest : List ℕ} {b : Block} (h : IsRead rest b) where
-  answered : outcome (b .answer) (b .left) ≡ delivered (readingOf rest b) (length (rest ++ b .new)) (b .lent)
+  answered : outcome (b .answer) (b .left) ≡ delivered (readingBehind rest b) (length (rest ++ b .new)) (b .lent)
   answered = h .call ∙ read-delivered (rest ++ b .new) (b .lent) (b .ended) (h .enough)
 
   says : b .answer ≡
-      Delivered (length (joined (readingOf rest b .frames))) (length (readingOf rest b .frames)) (length (rest ++ b .new) - length (readingOf rest b .kept))
+      Delivered (length (joined (readingBehind rest b .frames))) (length (readingBehind rest b .frames)) (length (rest ++ b .new) - length (readingBehind rest b .kept))
   unfolding delivered
   says = ap (λ (o : Outcome BlockAnswer). o .answer) answered
 
-  pub block-rest : restBy (b .answer) (rest ++ b .new) ≡ readingOf rest b .kept
+  pub block-rest : restBy (b .answer) (rest ++ b .new) ≡ readingBehind rest b .kept
   block-rest = rw says (rest-there (rest ++ b .new) (b .ended))
 
-  pub block-delivers : deliveredBy (b .answer) (b .left) ≡ joined (readingOf rest b .frames)
+  pub block-delivers : deliveredBy (b .answer) (b .left) ≡ joined (readingBehind rest b .frames)
   unfolding delivered
   block-delivers =
-      let m : b .left ≡ over (joined (readingOf rest b .frames)) (b .lent) = ap (λ (o : Outcome BlockAnswer). o .memory) answered in
-      rw (says, m) (take-append-seam (joined (readingOf rest b .frames)) _)
+      let m : b .left ≡ over (joined (readingBehind rest b .frames)) (b .lent) = ap (λ (o : Outcome BlockAnswer). o .memory) answered in
+      rw (says, m) (take-append-seam (joined (readingBehind rest b .frames)) _)
 
-  block-counts : countedBy (b .answer) ≡ length (readingOf rest b .frames)
+  block-counts : countedBy (b .answer) ≡ length (readingBehind rest b .frames)
   block-counts = rw says
 
 -- How a line goes on in blocks from what was read of it before.

@@ -13,8 +13,8 @@ use Rattle.frame.specs.Recognition.{recognised}
 use Rattle.frame.specs.declared.Recognised.the-variants.{Open}
 use Rattle.line_terms.specs.Line.{Symbol, byte, Choice, Keeps, Certain}
 use Rattle.line_terms.specs.Places.{joined}
-use Rattle.line_terms.specs.Scan.{Reading, scan}
-use Rattle.line_terms.specs.Reading.{OneChoice, one-choice}
+use Rattle.line_terms.specs.Scan.{LineReading, scan}
+use Rattle.line_terms.specs.OneChoice.{OneChoice, one-choice}
 use Rattle.line_terms.specs.ScanLaws.{scan-rising, scan-kept-open}
 use Rattle.line_terms.specs.FoundFrames.{AllFrames, each-frame}
 use Rattle.line_terms.specs.ScanCertain.{found-certain, certain-found}
@@ -86,7 +86,7 @@ pub block-due : (block : List ℕ) (ended : Bool) (lent left : List ℕ) (answer
     outcome answer left ≡ blockRead block ended lent → ReadsTheBlock block ended lent left answer
 unfolding delivered blockReading readingFrom
 block-due block ended lent left answer h e =
-    let r : Reading = scan 0 0 (symbols block ended) in
+    let r : LineReading = scan 0 0 (symbols block ended) in
     let g : outcome answer left ≡ delivered (blockReading block ended) (length block) lent = e ∙ read-delivered block lent ended h in
     let there : drop (length block - length (r .kept)) block ≡ r .kept = rest-there block ended in
     record {

@@ -1,7 +1,7 @@
 -- Laws of keeping a rest: the move to the front, byte by byte, and what each way out comes to.
 use Prim.Native.Nat.{ℕ, _+_, _-_, _≤_, _<_}
 use native.Mathlib.Omega.{arith}
-use mathlib.Core.Path.{_≡_, refl, ap, sym, _∙_}
+use mathlib.Core.Path.{_≡_, ap, sym, _∙_}
 use mathlib.Core.List.{List, map, map-id}
 use lib.ListN.{length, take, drop, getD, set, length-drop, length-map}
 use lib.Seq.{getD-drop, getD-take, length-take-le}
@@ -9,7 +9,8 @@ use lib.Dec.{leb}
 use borrow.Author.Tests.{le-leb, lt-leb, leb-true}
 use Rattle.bytes.specs.Bytes.{slice}
 use Rattle.laws.specs.Memory.{Outcome, outcome, over}
-use Rattle.laws.specs.MemoryLaws.{Mapping, mapping-start, mapping-next, mapping-end, over-behind, pick-cases}
+use Rattle.laws.specs.MemoryLaws.{Mapping, mapping-start, mapping-next, mapping-end, over-behind}
+use Rattle.laws.specs.TestLaws.{pick-cases}
 use Rattle.recording.specs.Rest.{restKept}
 
 -- A byte as it is.

@@ -4,7 +4,8 @@ use mathlib.Core.List.{List}
 use lib.ListN.{length}
 use lib.Dec.{leb}
 use Rattle.bytes.specs.Bytes.{slice}
-use Rattle.laws.specs.Memory.{Outcome, outcome, over, pick}
+use Rattle.laws.specs.Memory.{Outcome, outcome, over}
+use Rattle.laws.specs.Test.{pick}
 
 -- The outcome of keeping a rest: none, and nothing moved, where the places are no places of the buffer, one behind the other; else how many
 -- bytes stand between them, and they over the front.

@@ -8,7 +8,7 @@ use mathlib.Core.List.{List, [], _∷_, _++_, map}
 use lib.ListN.{length, drop, length-drop, length-map}
 use lib.Seq.{drop-length}
 use Rattle.line_terms.specs.Line.{Symbol, byte, silence}
-use Rattle.line_terms.specs.Scan.{Reading, bytesBefore, before, scan}
+use Rattle.line_terms.specs.Scan.{LineReading, bytesBefore, before, scan}
 use Rattle.line_terms.specs.BeginsLaws.{begins-open, unbroken}
 use Rattle.line_terms.specs.ScanLaws.{Scans, ends, covered, finds, stops, drops, scans}
 use Rattle.line.specs.Drain.{symbols, readingFrom}
@@ -25,7 +25,7 @@ record EndsWith (x : List Symbol) (kept : List ℕ) : Type 0 where
 behind-one : {x : List Symbol} {kept : List ℕ} (s : Symbol) → EndsWith x kept → EndsWith (s ∷ x) kept
 behind-one s w = record { place = suc (w .place); within = let h = w .within in omega arith; there = w .there }
 
-scans-end : {place k : ℕ} {x : List Symbol} {r : Reading} → Scans place k x r → EndsWith x (r .kept)
+scans-end : {place k : ℕ} {x : List Symbol} {r : LineReading} → Scans place k x r → EndsWith x (r .kept)
 unfolding before
 scans-end ends = record { place = 0; within = omega arith; there = refl }
 scans-end (covered {s = s} w) = behind-one s (scans-end w)

@@ -13,7 +13,7 @@ use Rattle.bytes.specs.Bytes.{slice, indexOf, indexAfter}
 use Rattle.frame.specs.Recognition.{recognised}
 use Rattle.frame.specs.RecognitionLaws.{other-start}
 use Rattle.frame.specs.declared.Recognised.the-variants.{Neither}
-use Rattle.line_terms.specs.Scan.{settled}
+use Rattle.line_terms.specs.Scan.{beforeSilence}
 use Rattle.line.specs.DrainLaws.{Draining, draining-next}
 use Rattle.recording.specs.Skip.{Passes}
 
@@ -72,12 +72,12 @@ find-passes line from to r h e l = record { later = omega arith; within = omega 
 module _ {line : List ℕ} {closed : Bool} {m₀ m : List ℕ} {written count : ℕ} where
   draining-other : {at : ℕ} → Draining line 0 closed m₀ m at written count → at < length line → (getD line at 0 ≡ 0x68 → ⊥) →
       Draining line 0 closed m₀ m (at + 1) written count
-  unfolding settled
+  unfolding beforeSilence
   draining-other {at} d h n =
       let some : 0 < length (drop at line) = simp length-drop (omega arith) in
       let first : getD (drop at line) 0 0 ≡ getD line at 0 = getD-drop at line 0 0 ∙ rw add-zero in
       let none : recognised (drop at line) ≡ Neither = other-start (drop at line) some (λ w. n (sym first ∙ w)) in
-      draining-next line 0 closed m₀ m at written count d h (ap (settled closed) none)
+      draining-next line 0 closed m₀ m at written count d h (ap (beforeSilence closed) none)
 
   draining-on : (k : ℕ) {at : ℕ} → Draining line 0 closed m₀ m at written count → Passes line at (at + k) →
       Draining line 0 closed m₀ m (at + k) written count

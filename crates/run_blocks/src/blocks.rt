@@ -1,6 +1,7 @@
 // The line in blocks, each begun with the rest of the one before.
 ghost use Prim.Native.Nat.{_≤_, _<_};
 ghost use lib.ListN.{length};
+use line_verdict::MOST_KEPT;
 use recording::BlockAnswer;
 use run_text::heard::Gathered;
 
@@ -54,7 +55,7 @@ fn read_filled(
         return spoilt();
     };
     let kept = recording::rest::keep_rest(block, rest, n);
-    if 211 < kept {
+    if MOST_KEPT < kept {
         return spoilt();
     }
     Progress {

@@ -4,8 +4,7 @@
 mod blocks;
 mod refusals;
 
-ghost use Prim.Native.Nat.{_≤_, _<_};
-ghost use lib.ListN.{length};
+use frame::delivery::next_end;
 use libc::STDIN_FILENO;
 use run_text::count::Tally;
 use run_text::heard::Gathered;
@@ -17,27 +16,11 @@ use run_text::write::write_frame;
 use run_text::write::write_numbered;
 use run_text::write::write_two;
 
-// The place behind the frame that begins at `at`, or the end of the bytes where they are too few for it.
-fn frame_end(frames: &[u8], at: usize) -> usize
-    requires { ⌜ at < length (now frames) ⌝ }
-    ensures { λ r. ⌜ (at < r) × (r ≤ length (now (frames .entry))) ⌝ }
-{
-    let left = frames.len() - at;
-    if left < 12 {
-        return frames.len();
-    }
-    let n = 12 + frames[at + 9] as usize;
-    if left < n {
-        return frames.len();
-    }
-    at + n
-}
-
 // Writes the line of each of the frames, which stand end to end.
 fn say_frames(frames: &[u8]) {
     let mut at = 0;
     while at < frames.len() {
-        let next = frame_end(frames, at);
+        let next = next_end(frames, at);
         write_frame(&frames[at..next]);
         at = next;
     }

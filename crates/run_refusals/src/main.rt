@@ -3,6 +3,7 @@
 use line::Answer;
 use line::Received;
 use line::Receiver;
+use line_verdict::MOST_KEPT;
 use run_text::memory::FILL;
 use run_text::memory::is_filled;
 use run_text::write::write;
@@ -30,7 +31,7 @@ fn keeping(place: usize, byte: u8, count: usize) -> Receiver {
         0xB3,
         0x16,
     ];
-    let mut kept = [0u8; 211];
+    let mut kept = [0u8; MOST_KEPT];
     bytes::copy(&a, &mut kept);
     if place < 16 {
         kept[place] = byte;

@@ -1,6 +1,7 @@
 // What stands between two lines of the script, and what each call makes of it. A call writes its answer.
 use energy::Energies;
 use energy::Rows;
+use energy::reading;
 use meter::Meter;
 use meter_counting::Counted;
 use reader::Request;
@@ -34,7 +35,7 @@ fn with_reading(rows: Rows, row: u32, column: u32, value: u32) -> Rows {
     }
     let mut next = rows;
     let mut changed = next[row as usize];
-    changed[column as usize] = value;
+    changed[column as usize] = reading::of(value);
     next[row as usize] = changed;
     next
 }

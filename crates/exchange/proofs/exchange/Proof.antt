@@ -14,7 +14,8 @@ use Rattle.reader.specs.Building.{requestFrame, requestBytes}
 use Rattle.reader.specs.Allowed as reader
 use Rattle.exchange.specs.Exchange.{Memories, memories, enough, exchanged}
 use Rattle.exchange.specs.EndToEnd.{EnoughMemory}
-use Rattle.exchange.specs.ExchangeLaws.{enough-memory, Puts, front-within, front-put, built-puts, built-refuses, request-woken, heard-puts, reply-within, carried-through}
+use Rattle.exchange.specs.ExchangeLaws.{enough-memory, built-puts, built-refuses, heard-puts, reply-within, carried-through, request-shape}
+use Rattle.laws.specs.Puts.{Puts, front-within, front-put}
 use Rattle.exchange.proofs.exchange.Statement.{statement}
 use Rattle.exchange.proofs.exchange.Tie as tie
 
@@ -23,10 +24,10 @@ abbrev lent : tie.Start → Memories
 lent s = memories (s .args .sent .now) (s .args .heard .now) (s .args .reply .now) (s .args .value .now)
 
 -- the array fields' lengths
-request-sized : (s : tie.Start) → reader.Sized (s .args .request)
+request-sized : (s : tie.Start) → reader.RequestSized (s .args .request)
 request-sized s = search needs
 
-meter-sized : (s : tie.Start) → meter.Sized (s .args .meter)
+meter-sized : (s : tie.Start) → meter.MeterSized (s .args .meter)
 meter-sized s = search needs
 
 -- the places where one step more is done, back to the start
@@ -114,7 +115,7 @@ hear-requires : tie.Need-hear-requires
 hear-requires c κs =
     let built = c .before .before .before in
     let s = entry (built-of built) in
-    (request-woken _ (given-bytes built) (request-sized s) (sends built .0), room (room-of (built-of built)) .heard)
+    (request-shape _ (given-bytes built) (request-sized s) (sends built .0), room (room-of (built-of built)) .heard)
 
 slice-reshare-prefix-answer : tie.Need-slice-reshare-prefix-answer
 slice-reshare-prefix-answer c = front-within (hears (c .before .before))

@@ -5,7 +5,8 @@ use mathlib.Core.Path.{_≡_}
 use native.Mathlib.Omega.{arith}
 use borrow.Author.Needs.{needs}
 use lib.ListN.{length, drop}
-use Rattle.exchange.specs.HearingLaws.{Hands, Hearing, hearing-start, hearing-next, hearing-end, hearing-length}
+use Rattle.line.specs.DeliversLaws.{Delivers}
+use Rattle.exchange.specs.HearingLaws.{Hearing, hearing-start, hearing-next, hearing-end, hearing-length}
 use Rattle.exchange.proofs.hear.Statement.{statement}
 use Rattle.exchange.proofs.hear.Tie as tie
 
@@ -19,12 +20,12 @@ abbrev μ-loop : tie.MeasureT-loop
 abbrev asked : tie.At-loop Inv-loop μ-loop → tie.Start Inv-loop μ-loop
 asked c = c .before .before .before .before
 
--- the memory keeps its length, and after the loop the frame is handed on
+-- the memory keeps its length, and after the loop the frame is delivered
 kept : (c : tie.At-loop Inv-loop μ-loop) → length (c .loop .heard) ≡ length (asked c .args .heard .now)
 kept c = hearing-length (asked c .pre .0) (asked c .pre .1) (c .loop .inv)
 
 handed : (c : tie.After-loop Inv-loop μ-loop)
-    → Hands (drop 4 (asked (c .before) .args .sent .now)) 1 (asked (c .before) .args .heard .now) (c .before .loop .heard) (c .before .loop .received)
+    → Delivers (drop 4 (asked (c .before) .args .sent .now)) 1 (asked (c .before) .args .heard .now) (c .before .loop .heard) (c .before .loop .received)
 handed c = hearing-end (c .before .loop .inv) (c .loop-test .left)
 
 new-requires : tie.Need-new-requires Inv-loop μ-loop
@@ -70,8 +71,8 @@ same-length-2 c = kept (c .before .before .before .before)
 
 returns-2 : tie.Need-returns-2 Inv-loop μ-loop
 returns-2 c =
-    let hands = handed (c .before .before .before) in
-    cc (hands .answer, hands .memory)
+    let last = handed (c .before .before .before) in
+    cc (last .answer, last .memory)
 
 pub hear-spec : {M : Type 1} → statement M
 hear-spec =

@@ -5,7 +5,7 @@ use borrow.Author.Needs.{needs}
 use lib.ListN.{length, take}
 use lib.Seq.{take-all}
 use Rattle.frame.specs.Frame.{total, checksumOf}
-use Rattle.frame.specs.Laws.{checksum-next}
+use Rattle.frame.specs.ChecksumLaws.{checksum-next}
 use Rattle.frame.proofs.checksum.Statement.{statement}
 use Rattle.frame.proofs.checksum.Tie as tie
 

@@ -12,7 +12,7 @@ use lib.Dec.{leb}
 use lib.Seq.{length-take-le}
 use Rattle.frame.specs.Frame.{checksumOf, lengthOf}
 use Rattle.frame.specs.Recognition.{recognisedBody, recognisedEnd}
-use Rattle.frame.specs.Laws.{last-wrong}
+use Rattle.frame.specs.StageLaws.{last-wrong}
 use Rattle.frame.proofs.recognise_body.Statement.{statement}
 use Rattle.frame.proofs.recognise_body.Tie as tie
 

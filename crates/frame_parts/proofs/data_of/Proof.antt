@@ -15,10 +15,10 @@ use Rattle.frame_parts.proofs.data_of.Statement.{statement}
 use Rattle.frame_parts.proofs.data_of.Tie as tie
 
 abbrev Inv-loop : tie.InvT-loop
-Inv-loop bytes meant₀ count i₀ meant i = Mapping unmasked (fieldOf bytes) (replicate 200 0) i meant
+Inv-loop bytes payload₀ count i₀ payload i = Mapping unmasked (fieldOf bytes) (replicate 200 0) i payload
 
 abbrev μ-loop : tie.MeasureT-loop
-μ-loop bytes meant₀ count i₀ meant i = count - i
+μ-loop bytes payload₀ count i₀ payload i = count - i
 
 -- the bytes, seen from past the tests
 abbrev given : tie.Else3 Inv-loop μ-loop → List ℕ
@@ -70,8 +70,8 @@ shared-slice-read-unmask c = search needs
 unmask-requires : tie.Need-unmask-requires Inv-loop μ-loop
 unmask-requires c κs = search needs
 
-array-write-meant : tie.Need-array-write-meant Inv-loop μ-loop
-array-write-meant c = search needs
+array-write-payload : tie.Need-array-write-payload Inv-loop μ-loop
+array-write-payload c = search needs
 
 add-i : tie.Need-add-i Inv-loop μ-loop
 add-i c = search needs
@@ -110,7 +110,7 @@ data-of-spec =
     add-unmask
     shared-slice-read-unmask
     unmask-requires
-    array-write-meant
+    array-write-payload
     add-i
     loop-less
     loop-again

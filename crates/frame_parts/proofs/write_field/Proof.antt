@@ -8,10 +8,10 @@ use Rattle.frame_parts.proofs.write_field.Statement.{statement}
 use Rattle.frame_parts.proofs.write_field.Tie as tie
 
 abbrev Inv-loop : tie.InvT-loop
-Inv-loop meant out₀ i₀ out i = Mapping masked meant out₀ i out
+Inv-loop payload out₀ i₀ out i = Mapping masked payload out₀ i out
 
 abbrev μ-loop : tie.MeasureT-loop
-μ-loop meant out₀ i₀ out i = length meant - i
+μ-loop payload out₀ i₀ out i = length payload - i
 
 loop-holds : tie.Need-loop-holds Inv-loop μ-loop
 loop-holds c = mapping-start (c .before .before .pre)

@@ -8,8 +8,8 @@ use borrow.Author.Needs.{needs}
 use borrow.Author.Tests.{le-leb, lt-leb}
 use lib.ListN.{length, take, drop, length-append, length-map}
 use Rattle.frame.specs.Frame.{checksumOf, masked, summed, frameOf, frameFor}
-use Rattle.frame.specs.Laws.{summed-length}
-use Rattle.frame_parts.specs.WritingLaws.{summed-parts, sealed}
+use Rattle.frame.specs.TakenApartLaws.{summed-length}
+use Rattle.frame_parts.specs.WritingLaws.{summed-parts, end-written}
 use Rattle.laws.specs.MemoryLaws.{lent-over}
 use Rattle.laws.specs.Memory.{outcome, over}
 use Rattle.frame_parts.specs.Writing.{writing}
@@ -20,21 +20,21 @@ use Rattle.frame_parts.proofs.write_frame.Tie as tie
 returns : tie.Need-returns
 unfolding writing
 returns c =
-    let much : 200 < length (c .before .before .before .args .meant .now) = omega arith in
+    let much : 200 < length (c .before .before .before .args .payload .now) = omega arith in
     simp (lt-leb _ _ much)
 
 -- the number of the data, and the memory, as they were tested
-few : (c : tie.Else1) → length (c .before .before .before .args .meant .now) ≤ 200
+few : (c : tie.Else1) → length (c .before .before .before .args .payload .now) ≤ 200
 few c = omega arith
 
-enough : (c : tie.Else2) → 12 + length (c .before .before .before .before .args .meant .now) ≤ length (c .before .before .before .before .args .out .now)
+enough : (c : tie.Else2) → 12 + length (c .before .before .before .before .args .payload .now) ≤ length (c .before .before .before .before .args .out .now)
 enough c = omega arith
 
 returns-2 : tie.Need-returns-2
 unfolding writing
 returns-2 c =
     let a = c .before .before .before .before .args in
-    let little : length (a .out .now) < 12 + length (a .meant .now) = omega arith in
+    let little : length (a .out .now) < 12 + length (a .payload .now) = omega arith in
     simp (le-leb _ _ (few (c .before)), lt-leb _ _ little)
 
 -- the address field has six bytes
@@ -45,36 +45,36 @@ six-bytes c = search needs
 abbrev head : List ℕ → ℕ → ℕ → List ℕ
 head address control n = 0x68 ∷ (address ++ (0x68 ∷ control ∷ n ∷ []))
 
--- what the head, the field in the part that is lent for it, and the seal make of the memory
-module _ (address : List ℕ) (control : ℕ) (meant m : List ℕ) (six : length address ≡ 6) (room : 12 + length meant ≤ length m) where
-  written : (o y : List ℕ) → o ≡ over (head address control (length meant)) m → y ≡ over (map masked meant) (take (length o - 10) (drop 10 o))
-      → let o′ = take 10 o ++ (y ++ drop (length o - 10) (drop 10 o)) in let n = 10 + length meant in
-      over (take n o′ ++ (checksumOf (take n o′) ∷ 0x16 ∷ [])) o′ ≡ over (frameFor address control meant) m
+-- what the head, the field in the part that is lent for it, and the end make of the memory
+module _ (address : List ℕ) (control : ℕ) (payload m : List ℕ) (six : length address ≡ 6) (room : 12 + length payload ≤ length m) where
+  written : (o y : List ℕ) → o ≡ over (head address control (length payload)) m → y ≡ over (map masked payload) (take (length o - 10) (drop 10 o))
+      → let o′ = take 10 o ++ (y ++ drop (length o - 10) (drop 10 o)) in let n = 10 + length payload in
+      over (take n o′ ++ (checksumOf (take n o′) ∷ 0x16 ∷ [])) o′ ≡ over (frameFor address control payload) m
   unfolding frameFor frameOf
   written o y p q =
-      let n = 10 + length meant in
-      let first = head address control (length meant) in
+      let n = 10 + length payload in
+      let first = head address control (length payload) in
       let ten : length first ≡ 10 = rw (length-append, six) in
-      let long : length (map masked meant) ≡ length meant = length-map meant masked in
-      let both : take 10 o ++ (y ++ drop (length o - 10) (drop 10 o)) ≡ over (first ++ map masked meant) m =
-      rw (q, p) (lent-over 10 first (map masked meant) m ten (omega arith)) in
-      let s = summed address control (map masked meant) in
-      let n-long : length s ≡ n = summed-length address control (map masked meant) six ∙ ap (λ (k : ℕ). 10 + k) long in
-      ap (λ (l : List ℕ). over (take n l ++ (checksumOf (take n l) ∷ 0x16 ∷ [])) l) (both ∙ ap (λ (l : List ℕ). over l m) (summed-parts address control meant))
-      ∙ sealed n s m n-long
+      let long : length (map masked payload) ≡ length payload = length-map payload masked in
+      let both : take 10 o ++ (y ++ drop (length o - 10) (drop 10 o)) ≡ over (first ++ map masked payload) m =
+      rw (q, p) (lent-over 10 first (map masked payload) m ten (omega arith)) in
+      let s = summed address control (map masked payload) in
+      let n-long : length s ≡ n = summed-length address control (map masked payload) six ∙ ap (λ (k : ℕ). 10 + k) long in
+      ap (λ (l : List ℕ). over (take n l ++ (checksumOf (take n l) ∷ 0x16 ∷ [])) l) (both ∙ ap (λ (l : List ℕ). over l m) (summed-parts address control payload))
+      ∙ end-written n s m n-long
 
 returns-3 : tie.Need-returns-3
 unfolding writing
 returns-3 c =
-    let at-seal = c .before .before in
-    let at-field = at-seal .before .before .before .before in
+    let at-end = c .before .before in
+    let at-field = at-end .before .before .before .before in
     let at-head = at-field .before .before .before .before in
     let at-if2 = at-head .before .before in
     let a = at-if2 .before .before .before .before .args in
-    let front = written (a .address) (a .control) (a .meant .now) (a .out .now) (six-bytes (at-if2 .before .before .before .before)) (enough at-if2)
+    let front = written (a .address) (a .control) (a .payload .now) (a .out .now) (six-bytes (at-if2 .before .before .before .before)) (enough at-if2)
     (at-head .write-head .last .1 .1 .1 .0) (at-field .write-field .last .1 .0) (at-head .write-head .ensures) (at-field .write-field .ensures) in
     simp (le-leb _ _ (few (at-if2 .before)), le-leb _ _ (enough at-if2))
-    (ap (λ (l : List ℕ). outcome (Length (12 + length (a .meant .now))) l) (at-seal .seal .ensures ∙ front))
+    (ap (λ (l : List ℕ). outcome (Length (12 + length (a .payload .now))) l) (at-end .write-end .ensures ∙ front))
 
 pub write-frame-spec : {M : Type 1} → statement M
 write-frame-spec =

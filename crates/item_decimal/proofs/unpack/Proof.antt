@@ -1,9 +1,9 @@
--- The number of bytes was tested; what was found is what `firstBad` says, and each arm answers as `numberOf` does of it.
+-- The number of bytes was tested; what was found is what `firstBad` says, and each arm answers as `scannedNumber` does of it.
 use mathlib.Core.Path.{_≡_, ap, sym, _∙_}
 use borrow.Author.Needs.{needs}
 use borrow.Author.Tests.{le-leb, lt-leb}
 use lib.ListN.{length}
-use Rattle.item_decimal.specs.Decimal.{allDecimal, foundNone, numberOf, unpacking}
+use Rattle.item_decimal.specs.Decimal.{allDecimal, foundNone, scannedNumber, unpacking}
 use Rattle.item_decimal.specs.declared.Scan.{Scan}
 use Rattle.item_decimal.specs.declared.Unpacked.the-variants.{Number}
 use Rattle.item_decimal.proofs.unpack.Statement.{statement}
@@ -20,7 +20,7 @@ number-of-requires c κs =
     (at-scan .before .if1 .left, ap foundNone (sym (at-scan .first-bad .ensures) ∙ c .enum-told .given .1))
 
 -- the answer by what was found
-answer : (c : tie.After-first-bad) (r : Scan) → c .first-bad .result ≡ r → numberOf r (c .before .before .before .args .bytes .now) ≡ unpacking (c .before .before .before .args .bytes .now)
+answer : (c : tie.After-first-bad) (r : Scan) → c .first-bad .result ≡ r → scannedNumber r (c .before .before .before .args .bytes .now) ≡ unpacking (c .before .before .before .args .bytes .now)
 unfolding unpacking
 answer c r e =
     let bytes = c .before .before .before .args .bytes .now in

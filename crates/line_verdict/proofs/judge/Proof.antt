@@ -1,17 +1,7 @@
 -- Every return is one of the verdicts of `VerdictLaws` up to the second start delimiter, or what `judge_body` gives.
 use native.Mathlib.Omega.{arith}
 use borrow.Author.Needs.{needs}
-use Rattle.line_verdict.specs.VerdictLaws.{
-  start-right,
-  start-wrong,
-  many-without,
-  judged-bad,
-  first-wrong,
-  address-comes,
-  second-right,
-  second-wrong,
-  eighth-wrong,
-}
+use Rattle.line_verdict.specs.VerdictLaws.{start-right, start-wrong, many-without, judged-bad, first-wrong, address-comes, second-right, second-wrong, eighth-wrong}
 use Rattle.line_verdict.proofs.judge.Statement.{statement}
 use Rattle.line_verdict.proofs.judge.Tie as tie
 

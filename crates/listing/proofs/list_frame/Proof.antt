@@ -60,7 +60,7 @@ returns-3 c =
     let memory = at-if .before .before .before .before .before .before .before .args .out .now in
     let whole = spans (at-if .before .before .before) in
     let long : length (textOf frame) ≤ length memory = omega (arith, room at-if, text-length frame whole) in
-    rw (one (at-if .before .before .before), le-leb _ _ long, at-line .write-line .ensures, decided (at-if .before))
+    rw (one (at-if .before .before .before), le-leb _ _ long, at-line .write-line .ensures .1, decided (at-if .before))
 
 pub list-frame-spec : {M : Type 1} → statement M
 list-frame-spec =

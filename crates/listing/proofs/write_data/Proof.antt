@@ -44,11 +44,11 @@ loop-again c =
     let at-loop = c .before .before .before .before .before .before .before in
     let field = at-loop .before .before .before .args .field .now in
     let i = at-loop .loop .i in
-    let meant = c .before .before .before .before .unmask in
+    let payload = c .before .before .before .before .unmask in
     let place : at-loop .loop .at ≡ at-loop .before .before .before .args .start + 2 * length (map unmasked (take i field)) = omega (arith, forward-length unmasked field i (omega arith)) in (
       search needs,
       search needs,
-      digits-next (meant .result) (at-loop .loop .inv .2) place (c .before .before .write-byte .ensures) (rw (meant .ensures) (forward-next unmasked field i (omega arith))),
+      digits-next (payload .result) (at-loop .loop .inv .2) place (c .before .before .write-byte .ensures) (rw (payload .ensures) (forward-next unmasked field i (omega arith))),
     )
 
 same-length : tie.Need-same-length Inv-loop μ-loop

@@ -1,13 +1,14 @@
 -- The text's length says that there is room, and in each of the two cases a law says that what is stored is what stands behind the
 -- control code. The lent part of the frame is its data field.
 use Prim.Native.Nat.{ℕ, _+_, _*_, _-_, _≤_, _<_}
-use mathlib.Core.Path.{_≡_, _∙_}
+use mathlib.Core.Path.{_≡_, sym, _∙_}
 use mathlib.Core.List.{List}
 use native.Mathlib.Omega.{arith}
 use borrow.Author.Needs.{needs}
 use lib.ListN.{length, getD, length-set, length-take, length-drop}
 use Rattle.frame.specs.Frame.{lengthOf, fieldOf, dataOf}
-use Rattle.listing.specs.TextLaws.{length-least, length-some, no-data-stored, data-stored}
+use Rattle.listing.specs.Text.{textLength}
+use Rattle.listing.specs.TextLaws.{length-least, length-none, length-some, no-data-stored, data-stored}
 use Rattle.listing.proofs.write_tail.Statement.{statement}
 use Rattle.listing.proofs.write_tail.Tie as tie
 
@@ -21,7 +22,7 @@ returns : tie.Need-returns
 unfolding lengthOf
 returns c =
     let at-start = c .before .before .before .before in
-    no-data-stored (at-start .args .frame .now) (at-start .pre .0) (at-start .args .out .now) (c .if1 .taken)
+    (sym (length-none _ (c .if1 .taken)), no-data-stored (at-start .args .frame .now) (at-start .pre .0) (at-start .args .out .now) (c .if1 .taken))
 
 -- what is known where L is not 0
 record Some (frame out : List ℕ) : Type 0 where
@@ -51,11 +52,11 @@ part-write-data-end c = omega (arith, some c)
 write-data-requires : tie.Need-write-data-requires
 write-data-requires c κs = simp (length-set, length-take, length-drop) (omega (arith, some (c .before .before)))
 
-mul-out : tie.Need-mul-out
-mul-out c = omega (arith, some (c .before .before .before .before .before))
+mul-last : tie.Need-mul-last
+mul-last c = omega (arith, some (c .before .before .before .before .before))
 
-add-out : tie.Need-add-out
-add-out c = omega (arith, some (c .before .before .before .before .before))
+add-last : tie.Need-add-last
+add-last c = omega (arith, some (c .before .before .before .before .before))
 
 -- what was lent comes back as long as it was
 as-long : (c : tie.After-write-data) → length (c .write-data .last .1 .1 .0) ≡ length (c .before .before .before .before .before .before .before .args .out .now)
@@ -74,7 +75,8 @@ returns-2 c =
     let at-start = at-if .before .before .before .before in
     let frame = at-start .args .frame .now in
     let all : 10 + getD frame 9 0 - 10 ≡ getD frame 9 0 = omega arith in
-    rw (c .before .before .write-data .ensures, all) (data-stored frame (at-start .pre .0) (at-start .args .out .now) (at-if .if1 .left))
+    let long : 16 + 2 * getD frame 9 0 + 1 ≡ textLength (getD frame 9 0) = omega (arith, length-some (getD frame 9 0) (at-if .if1 .left)) in
+    (long, rw (c .before .before .write-data .ensures, all) (data-stored frame (at-start .pre .0) (at-start .args .out .now) (at-if .if1 .left)))
 
 pub write-tail-spec : {M : Type 1} → statement M
 write-tail-spec =
@@ -91,8 +93,9 @@ write-tail-spec =
     (λ c. search needs)
     part-write-data-end
     write-data-requires
-    mul-out
-    add-out
+    mul-last
+    add-last
     slice-write-out-3
+    (λ c. omega (arith, some (c .before .before .before .before .before)))
     same-length-2
     returns-2)

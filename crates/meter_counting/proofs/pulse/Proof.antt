@@ -21,20 +21,20 @@ returns : tie.Need-returns
 unfolding pulsedBy
 returns c =
     let t = c .before in
-    rw (not-true (t .before .args .within) (t .if1 .taken)) (c .hand-back .ensures)
+    rw (not-true (t .before .args .within) (t .if1 .taken)) (c .with-answer .ensures)
 
 returns-2 : tie.Need-returns-2
 unfolding pulsedBy
 returns-2 c =
     let t = c .before in
-    rw (ranges (t .before), lt-leb _ _ (t .if2 .taken)) (c .hand-back2 .ensures)
+    rw (ranges (t .before), lt-leb _ _ (t .if2 .taken)) (c .with-answer2 .ensures)
 
 returns-3 : tie.Need-returns-3
 unfolding pulsedBy
 returns-3 c =
     let t = c .before in
     let e = t .before .before in
-    rw (ranges (e .before), le-leb _ _ (e .if2 .left), sym (t .before .is-rate .ensures) ∙ not-true _ (t .if3 .taken)) (c .hand-back3 .ensures)
+    rw (ranges (e .before), le-leb _ _ (e .if2 .left), sym (t .before .is-rate .ensures) ∙ not-true _ (t .if3 .taken)) (c .with-answer3 .ensures)
 
 returns-4 : tie.Need-returns-4
 unfolding pulsedBy
@@ -42,7 +42,7 @@ returns-4 c =
     let p = c .before in
     let t = p .before in
     let e = t .before in
-    rw (ranges (e .before .before .before), good e, eq-eqb _ _ (t .if4 .taken), ← p .pulsed .ensures) (c .hand-back4 .ensures)
+    rw (ranges (e .before .before .before), good e, eq-eqb _ _ (t .if4 .taken), ← p .pulsed .ensures) (c .with-answer4 .ensures)
 
 returns-5 : tie.Need-returns-5
 unfolding pulsedBy
@@ -50,7 +50,7 @@ returns-5 c =
     let p = c .before in
     let t = p .before in
     let e = t .before in
-    rw (ranges (e .before .before .before), good e, ne-eqb _ _ (t .if4 .left), ← p .pulsed2 .ensures) (c .hand-back5 .ensures)
+    rw (ranges (e .before .before .before), good e, ne-eqb _ _ (t .if4 .left), ← p .pulsed2 .ensures) (c .with-answer5 .ensures)
 
 pub pulse-spec : {M : Type 1} → statement M
 pulse-spec =

@@ -9,7 +9,7 @@ returns : tie.Need-returns
 unfolding settledBy
 returns c =
     let t = c .before in
-    rw (not-true (t .before .args .within) (t .if1 .taken)) (c .hand-back .ensures)
+    rw (not-true (t .before .args .within) (t .if1 .taken)) (c .with-answer .ensures)
 
 returns-2 : tie.Need-returns-2
 unfolding settledBy
@@ -18,7 +18,7 @@ returns-2 c =
     let forward = reverse .before in
     let e = forward .before in
     rw (not-false (e .before .args .within) (e .if1 .left), ← forward .settled .ensures, ← reverse .settled2 .ensures)
-    (c .hand-back2 .ensures)
+    (c .with-answer2 .ensures)
 
 pub settle-spec : {M : Type 1} → statement M
 settle-spec =

@@ -1,4 +1,4 @@
--- Where the item is listed and the value as long, its place says what is written.
+-- Where the item is listed and the value as long, its location says what is written.
 use Prim.Native.Nat.{_-_}
 use mathlib.Core.Path.{_≡_, sym, _∙_}
 use native.Mathlib.Omega.{arith}
@@ -7,10 +7,10 @@ use borrow.Author.Tests.{eq-eqb, ne-eqb}
 use Rattle.item.specs.Table.{itemOf}
 use Rattle.item.specs.declared.table.Item.{Item}
 use Rattle.item.specs.declared.table.Lookup.the-variants.{Listed}
-use Rattle.meter_holding.specs.Holding.{placeOf, registersWith, registersAfter}
-use Rattle.meter_holding.specs.HoldingLaws.{Lies, listed-lies}
-use Rattle.meter_holding.specs.declared.place.Place.{Place}
-use Rattle.meter_holding.specs.declared.place.Place.the-variants.{Register}
+use Rattle.meter_holding.specs.Holding.{locationOf, registersWith, registersAfter}
+use Rattle.meter_holding.specs.HoldingLaws.{FitsAt, listed-fits-at}
+use Rattle.meter_holding.specs.declared.location.Location.{Location}
+use Rattle.meter_holding.specs.declared.location.Location.the-variants.{Register}
 use borrow.Author.Needs.{needs}
 use Rattle.meter_holding.proofs.with_value.Statement.{statement}
 use Rattle.meter_holding.proofs.with_value.Tie as tie
@@ -29,14 +29,14 @@ listed c = sym (c .before .before .before .item-of .ensures) ∙ c .before .item
 as-long : (c : tie.Else1) → length (start-of (c .before .before) .args .value .now) ≡ item (c .before .before) .length
 as-long c = c .if1 .left
 
-module _ (c : tie.After-place-of) (place : Place) (e : c .place-of .result ≡ place) where
-  -- the place that was found
-  found : placeOf (item (c .before .before .before) .kind) ≡ place
-  found = sym (c .place-of .ensures) ∙ e
+module _ (c : tie.After-location-of) (location : Location) (e : c .location-of .result ≡ location) where
+  -- the location that was found
+  found : locationOf (item (c .before .before .before) .kind) ≡ location
+  found = sym (c .location-of .ensures) ∙ e
 
   -- what is written there
   after : let a = start-of (c .before .before .before) .args in
-      registersWith place (a .value .now) (a .registers) ≡ registersAfter (a .identifier) (a .value .now) (a .registers)
+      registersWith location (a .value .now) (a .registers) ≡ registersAfter (a .identifier) (a .value .now) (a .registers)
   unfolding registersAfter
   after = rw (listed (c .before .before .before), eq-eqb _ _ (as-long (c .before)), found)
 
@@ -52,8 +52,8 @@ put-requires : tie.Need-put-requires
 put-requires c κs =
     let p = c .before .before .before in
     let k = p .before .before .before in
-    let lies : Lies (item k .length) (Register (c .before .place .given .0 .0)) = rw (found p _ (c .before .place .given .1)) at (listed-lies _ (item k) (listed k)) in
-    omega (arith, lies, as-long (p .before))
+    let fits : FitsAt (item k .length) (Register (c .before .location .given .0 .0)) = rw (found p _ (c .before .location .given .1)) at (listed-fits-at _ (item k) (listed k)) in
+    omega (arith, fits, as-long (p .before))
 
 returns-3 : tie.Need-returns-3
 unfolding registersWith
@@ -67,7 +67,7 @@ returns-5 : tie.Need-returns-5
 unfolding registersWith
 returns-5 c =
     let p = c .before .before in
-    c .put .ensures ∙ after (p .before .before) _ (p .place .given .1)
+    c .put .ensures ∙ after (p .before .before) _ (p .location .given .1)
 
 pub with-value-spec : {M : Type 1} → statement M
 with-value-spec =

@@ -1,4 +1,4 @@
--- Where the item is listed and there is room, what is held at its place is written.
+-- Where the item is listed and there is room, what is held at its location is written.
 use Prim.Native.Nat.{_-_}
 use mathlib.Core.Path.{_≡_, sym, _∙_}
 use borrow.Author.Tests.{le-leb, lt-leb}
@@ -6,7 +6,7 @@ use Rattle.item.specs.Table.{itemOf}
 use Rattle.item.specs.declared.table.Item.{Item}
 use Rattle.item.specs.declared.table.Lookup.the-variants.{Listed}
 use Rattle.meter_holding.specs.Holding.{valueWritten}
-use Rattle.meter_holding.specs.HoldingLaws.{listed-lies}
+use Rattle.meter_holding.specs.HoldingLaws.{listed-fits-at}
 use borrow.Author.Needs.{needs}
 use Rattle.meter_holding.proofs.write_value.Statement.{statement}
 use Rattle.meter_holding.proofs.write_value.Tie as tie
@@ -32,7 +32,7 @@ returns-2 c = rw (listed (c .before .before), lt-leb _ _ (c .if1 .taken))
 write-held-requires : tie.Need-write-held-requires
 write-held-requires c κs =
     let k = c .before .before .before in
-    (listed-lies _ (item k) (listed k), c .before .if1 .left)
+    (listed-fits-at _ (item k) (listed k), c .before .if1 .left)
 
 returns-3 : tie.Need-returns-3
 unfolding valueWritten

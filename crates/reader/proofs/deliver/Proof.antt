@@ -18,16 +18,10 @@ at-start c = c .before .before .before .before .before
 
 -- the value begins in the data, and fits the memory
 fits : (c : tie.After-known-told) → let s = at-start c in
-    (s .args .start ≤ length (s .args .meant .now)) × (length (s .args .meant .now) ≤ s .args .start + length (s .args .out .now))
+    (s .args .start ≤ length (s .args .payload .now)) × (length (s .args .payload .now) ≤ s .args .start + length (s .args .out .now))
 fits c =
     let s = at-start c in
-    subst (λ (j : Judgement). Fits j (s .args .start) (s .args .meant .now) (s .args .out .now)) (c .before .decided .given .1) (s .pre)
-
-sub-copy : tie.Need-sub-copy
-sub-copy c = omega (arith, fits c)
-
-part-copy-start : tie.Need-part-copy-start
-part-copy-start c = omega (arith, fits c)
+    subst (λ (j : Judgement). Fits j (s .args .start) (s .args .payload .now) (s .args .out .now)) (c .before .decided .given .1) (s .pre)
 
 copy-requires : tie.Need-copy-requires
 copy-requires c κs = rw (part-to-end, length-drop) (omega (arith, fits (c .before .before)))
@@ -50,8 +44,8 @@ deliver-spec =
     tie.close
     (tie.spec
     (λ c. search needs)
-    sub-copy
-    part-copy-start
+    (λ c. omega (arith, fits c))
+    (λ c. omega (arith, fits c))
     (λ c. search needs)
     copy-requires
     (λ c. search needs)

@@ -1,5 +1,5 @@
--- Each test is the next condition of a write of a listed item, and the first that does not hold refuses. The last two are what the
--- content says.
+-- Each test is the next condition of a write of a listed item, and the first that does not hold refuses. Behind them
+-- the content decides.
 use Prim.Native.Nat.{_≤_}
 use mathlib.Core.Path.{_≡_, ap, sym, _∙_}
 use mathlib.Core.Bool.{true}
@@ -10,8 +10,7 @@ use lib.ListN.{length}
 use lib.Seq.{length-take-le}
 use Rattle.laws.specs.Checks.{firstFailing}
 use Rattle.item.specs.declared.content.Content.{Content}
-use Rattle.reader_allowed.specs.Allowed.{valueConditions}
-use Rattle.reader_allowed.specs.AllowedLaws.{contentAdmission, content-admission}
+use Rattle.reader_allowed.specs.Allowed.{contentChecks, valueConditions}
 use Rattle.reader_allowed.specs.declared.Admission.the-variants.{Allowed, Refused}
 use Rattle.reader_allowed.proofs.value_admission.Statement.{statement}
 use Rattle.reader_allowed.proofs.value_admission.Tie as tie
@@ -64,22 +63,25 @@ slice-aggregate-content-of c = sym (length-take-le _ _ (fits (c .before)))
 -- behind the other conditions the content decides
 decided : (c : tie.After-content-of) (content : Content) → c .content-of .result ≡ content
     → let a = c .before .before .before .before .before .before .before .before .args in
-    contentAdmission content ≡ firstFailing Refused (valueConditions (a .level) (a .t2) (a .count) (a .item)) Allowed
+    firstFailing Refused (contentChecks content) Allowed ≡ firstFailing Refused (valueConditions (a .level) (a .t2) (a .count) (a .item)) Allowed
 unfolding firstFailing valueConditions
 decided c content e =
     let at-long = c .before .before in
     let at-few = at-long .before .before in
     let at-level = at-few .before in
-    rw (writable (at-level .before), le-leb _ _ (level at-level), le-leb _ _ (few at-few), eq-eqb _ _ (long at-long), content-admission)
-    (ap contentAdmission (sym e ∙ c .content-of .ensures))
+    rw (writable (at-level .before), le-leb _ _ (level at-level), le-leb _ _ (few at-few), eq-eqb _ _ (long at-long))
+    (ap (λ (k : Content). firstFailing Refused (contentChecks k) Allowed) (sym e ∙ c .content-of .ensures))
 
 returns-5 : tie.Need-returns-5
+unfolding firstFailing contentChecks
 returns-5 c = decided (c .before .before) _ (c .enum-told .given .1)
 
 returns-6 : tie.Need-returns-6
+unfolding firstFailing contentChecks
 returns-6 c = decided (c .before .before) _ (c .enum-told2 .given .1)
 
 returns-7 : tie.Need-returns-7
+unfolding firstFailing contentChecks
 returns-7 c = decided (c .before .before) _ (c .enum-told3 .given .1)
 
 pub value-admission-spec : {M : Type 1} → statement M

@@ -1,15 +1,14 @@
 -- With nothing to copy the memory is as it was; else the copy stands in the lent part behind what stands there.
-use Prim.Native.Nat.{ℕ, _-_}
-use mathlib.Core.Path.{_≡_, refl, ap, sym, _∙_}
+use Prim.Native.Nat.{ℕ}
+use mathlib.Core.Path.{_≡_, refl, sym}
 use mathlib.Core.List.{List}
 use native.Mathlib.Omega.{arith}
 use borrow.Author.Needs.{needs}
-use borrow.Rule.Slice.PartMut.{putMid}
-use lib.ListN.{length, take, drop, length-take, length-drop}
+use lib.ListN.{length, take, length-take, length-drop}
 use lib.Seq.{length-take-le}
-use Rattle.laws.specs.Memory.{over}
-use Rattle.laws.specs.MemoryLaws.{copied}
-use Rattle.receive_line.specs.WholeLineLaws.{gathered-none, gathered}
+use Rattle.laws.specs.MemoryLaws.{over-itself}
+use Rattle.laws.specs.PartLaws.{copied-behind}
+use Rattle.receive_line.specs.WholeLineLaws.{gathered-none}
 use Rattle.receive_line.proofs.gather.Statement.{statement}
 use Rattle.receive_line.proofs.gather.Tie as tie
 
@@ -30,9 +29,9 @@ returns-2 c =
     let a = s .args in
     let some : List ℕ = take (a .count) (a .delivered .now) in
     let size : length some ≡ a .count = length-take-le (a .count) (a .delivered .now) (s .pre .0) in
-    let part : List ℕ = take (length (a .out .now) - a .at) (drop (a .at) (a .out .now)) in
-    let e : c .before .before .copy .last .1 .0 ≡ over some part = c .before .before .copy .ensures .1 ∙ copied some part in
-    (refl, ap (putMid (a .at) (length (a .out .now) - a .at) (a .out .now)) e ∙ gathered (a .at) some (a .out .now) (omega arith))
+    let front : length (take (a .at) (a .out .now)) ≡ a .at = length-take-le (a .at) (a .out .now) (omega arith) in
+    let itself = over-itself (a .at) (a .out .now) (omega arith) in
+    (refl, copied-behind (a .at) (take (a .at) (a .out .now)) some (a .out .now) front (omega arith) (sym itself) (c .before .before .copy .ensures .1))
 
 pub gather-spec : {M : Type 1} → statement M
 gather-spec =

@@ -4,18 +4,18 @@ use borrow.Author.Needs.{needs}
 use Rattle.laws.specs.Memory.{outcome}
 use Rattle.recording.specs.declared.BlockAnswer.{BlockAnswer}
 use Rattle.receive_line.specs.WholeLine.{receivedLine}
-use Rattle.receive_line.specs.WholeLineLaws.{numberOf, line-read}
+use Rattle.receive_line.specs.WholeLineLaws.{numberReturned, line-read}
 use Rattle.receive_line.proofs.read_line.Statement.{statement}
 use Rattle.receive_line.proofs.read_line.Tie as tie
 
 -- the number of the answer, whichever it is known to be
 answered : {a : BlockAnswer} (c : tie.After-read-block) → c .read-block .result ≡ a →
     let args = c .before .before .before .before .args in
-    outcome (numberOf a) (c .read-block .last .1 .1 .0) ≡ receivedLine (args .input .now) (args .out .now)
+    outcome (numberReturned a) (c .read-block .last .1 .1 .0) ≡ receivedLine (args .input .now) (args .out .now)
 answered c e =
     let args = c .before .before .before .before .args in
-    let number : outcome (numberOf (c .read-block .result)) (c .read-block .last .1 .1 .0) ≡ receivedLine (args .input .now) (args .out .now) = line-read (args .input .now) (args .out .now) _ _ (c .read-block .ensures) in
-    ap (λ (b : BlockAnswer). outcome (numberOf b) (c .read-block .last .1 .1 .0)) (sym e) ∙ number
+    let number : outcome (numberReturned (c .read-block .result)) (c .read-block .last .1 .1 .0) ≡ receivedLine (args .input .now) (args .out .now) = line-read (args .input .now) (args .out .now) _ _ (c .read-block .ensures) in
+    ap (λ (b : BlockAnswer). outcome (numberReturned b) (c .read-block .last .1 .1 .0)) (sym e) ∙ number
 
 returns : tie.Need-returns
 returns c = answered (c .before .before .before .before) (c .enum-told .given .1)

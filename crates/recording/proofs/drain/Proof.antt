@@ -6,14 +6,15 @@ use borrow.Rule.Slice.PartMut.{putMid}
 use mathlib.Core.List.{List}
 use native.Mathlib.Omega.{arith}
 use borrow.Author.Needs.{needs}
+use borrow.Rule.Slice.PartAt.{part-to-end}
 use borrow.Author.Tests.{not-true, not-false}
 use lib.ListN.{length, take, drop, length-take, length-drop}
 use Rattle.laws.specs.MemoryLaws.{copied}
 use Rattle.laws.specs.Memory.{over}
 use Rattle.frame.specs.Recognition.{recognised}
 use Rattle.frame.specs.declared.Recognised.the-variants.{Whole}
-use Rattle.line_terms.specs.Scan.{settled}
-use Rattle.line.specs.DrainLaws.{rest-part, Draining, draining-start, draining-next, draining-whole, draining-end, draining-open, draining-closed, whole-fits, whole-least}
+use Rattle.line_terms.specs.Scan.{beforeSilence}
+use Rattle.line.specs.DrainLaws.{Draining, draining-start, draining-next, draining-whole, draining-end, draining-open, draining-closed, whole-fits, whole-least}
 use Rattle.recording.specs.SkipLaws.{passes-one, passes-join, draining-passes}
 use Rattle.recording.specs.BlockLaws.{drained-read}
 use Rattle.recording.proofs.drain.Statement.{statement}
@@ -31,7 +32,7 @@ seen : (c : tie.After-recognise Inv-loop μ-loop) →
     c .recognise .result ≡ recognised (drop (l .loop .at) (l .before .before .before .args .block .now))
 seen c =
     let l = c .before .before .before .before .before in
-    c .recognise .ensures ∙ ap recognised (rest-part (l .loop .at) (l .before .before .before .args .block .now))
+    c .recognise .ensures ∙ ap recognised (part-to-end (l .before .before .before .args .block .now) (l .loop .at))
 
 -- the frame that stands there
 abbrev size : tie.After-known-told Inv-loop μ-loop → ℕ
@@ -182,11 +183,11 @@ loop-less-4 : tie.Need-loop-less-4 Inv-loop μ-loop
 loop-less-4 c = search needs
 
 loop-again-4 : tie.Need-loop-again-4 Inv-loop μ-loop
-unfolding settled
+unfolding beforeSilence
 loop-again-4 c =
     let r = c .before .before in
     let l = r .before .before .before .before .before in
-    draining-next _ _ _ _ _ _ _ _ (l .loop .inv) (omega arith) (ap (settled _) (sym (seen r) ∙ c .enum-told2 .given .1))
+    draining-next _ _ _ _ _ _ _ _ (l .loop .inv) (omega arith) (ap (beforeSilence _) (sym (seen r) ∙ c .enum-told2 .given .1))
 
 same-length-2 : tie.Need-same-length-2 Inv-loop μ-loop
 same-length-2 c = search needs

@@ -1,19 +1,19 @@
--- The invariant, `Tested`: the rows passed are in range. Its laws say what a turn and the end make of it.
+-- The invariant: the rows passed are in range. The laws of `all-walk` say what a turn and the end make of it.
 use Prim.Native.Nat.{_-_, _≤_, _<_}
 use mathlib.Core.Path.{_≡_, sym, _∙_}
 use mathlib.Core.List.{[]}
 use native.Mathlib.Omega.{arith}
 use borrow.Author.Needs.{needs}
 use borrow.Author.Tests.{not-true, not-false}
-use lib.ListN.{length}
-use Rattle.energy.specs.Energies.{rowsInRange}
-use Rattle.energy.specs.TestLaws.{Tested, tested-start, tested-next, tested-fails, tested-end}
-use Rattle.energy.specs.EnergiesLaws.{rows-test}
+use lib.ListN.{length, drop}
+use Rattle.laws.specs.All.{allOf}
+use Rattle.laws.specs.Walk.{Walked, walked-start, walked-next, walked-stops, walked-end, all-walk}
+use Rattle.energy.specs.Energies.{rowInRange, rowsInRange}
 use Rattle.energy.proofs.rows.in_range.Statement.{statement}
 use Rattle.energy.proofs.rows.in_range.Tie as tie
 
 abbrev Inv-loop : tie.InvT-loop
-Inv-loop rows i₀ i = Tested rowsInRange rows i
+Inv-loop rows i₀ i = Walked (length rows) (λ k. allOf rowInRange (drop k rows)) i
 
 abbrev μ-loop : tie.MeasureT-loop
 μ-loop rows i₀ i = 13 - i
@@ -27,7 +27,7 @@ inside : (c : tie.In-loop Inv-loop μ-loop) → c .before .loop .i < length (c .
 inside c = omega (arith, thirteen (c .before .before))
 
 loop-holds : tie.Need-loop-holds Inv-loop μ-loop
-loop-holds c = tested-start
+loop-holds c = walked-start
 
 mul-row : tie.Need-mul-row Inv-loop μ-loop
 mul-row c = search needs
@@ -39,9 +39,10 @@ row-in-range-requires : tie.Need-row-in-range-requires Inv-loop μ-loop
 row-in-range-requires c κs = search needs
 
 returns : tie.Need-returns Inv-loop μ-loop
+unfolding rowsInRange
 returns c =
     let in-loop = c .before .before .before in
-    sym (tested-fails rows-test [] (in-loop .before .loop .inv) (inside in-loop) (sym (c .before .row-in-range .ensures) ∙ not-true _ (c .if1 .taken)))
+    sym (walked-stops (all-walk rowInRange [] _) (in-loop .before .loop .inv) (inside in-loop) (sym (c .before .row-in-range .ensures) ∙ not-true _ (c .if1 .taken)))
 
 add-i : tie.Need-add-i Inv-loop μ-loop
 add-i c = search needs
@@ -52,12 +53,13 @@ loop-less c = search needs
 loop-again : tie.Need-loop-again Inv-loop μ-loop
 loop-again c =
     let in-loop = c .before .before .before in
-    tested-next rows-test [] (in-loop .before .loop .inv) (inside in-loop) (sym (c .before .row-in-range .ensures) ∙ not-false _ (c .if1 .left))
+    walked-next (all-walk rowInRange [] _) (in-loop .before .loop .inv) (inside in-loop) (sym (c .before .row-in-range .ensures) ∙ not-false _ (c .if1 .left))
 
 returns-2 : tie.Need-returns-2 Inv-loop μ-loop
+unfolding rowsInRange
 returns-2 c =
     let all : length (c .before .before .args .t1) ≤ c .before .loop .i = omega (arith, thirteen (c .before .before)) in
-    sym (tested-end rows-test (c .before .loop .inv) all)
+    sym (walked-end (all-walk rowInRange [] _) (c .before .loop .inv) all)
 
 pub in-range-spec : {M : Type 1} → statement M
 in-range-spec =

@@ -1,19 +1,19 @@
--- The invariant, `Tested`: the readings passed are in range. Its laws say what a turn and the end make of it.
+-- The invariant: the readings passed are in range. The laws of `all-walk` say what a turn and the end make of it.
 use Prim.Native.Nat.{_-_, _≤_, _<_}
 use mathlib.Core.Path.{_≡_, sym, _∙_}
 use native.Mathlib.Omega.{arith}
 use borrow.Author.Needs.{needs}
 use borrow.Author.Tests.{not-true, not-false}
-use lib.ListN.{length}
-use Rattle.energy.specs.Reading.{zeroReading}
+use lib.ListN.{length, drop}
+use Rattle.laws.specs.All.{allOf}
+use Rattle.laws.specs.Walk.{Walked, walked-start, walked-next, walked-stops, walked-end, all-walk}
+use Rattle.energy.specs.Reading.{noReading, readingInRange}
 use Rattle.energy.specs.Energies.{rowInRange}
-use Rattle.energy.specs.TestLaws.{Tested, tested-start, tested-next, tested-fails, tested-end}
-use Rattle.energy.specs.EnergiesLaws.{row-test}
 use Rattle.energy.proofs.rows.row_in_range.Statement.{statement}
 use Rattle.energy.proofs.rows.row_in_range.Tie as tie
 
 abbrev Inv-loop : tie.InvT-loop
-Inv-loop row i₀ i = Tested rowInRange row i
+Inv-loop row i₀ i = Walked (length row) (λ k. allOf readingInRange (drop k row)) i
 
 abbrev μ-loop : tie.MeasureT-loop
 μ-loop row i₀ i = 5 - i
@@ -27,7 +27,7 @@ inside : (c : tie.In-loop Inv-loop μ-loop) → c .before .loop .i < length (c .
 inside c = omega (arith, five (c .before .before))
 
 loop-holds : tie.Need-loop-holds Inv-loop μ-loop
-loop-holds c = tested-start
+loop-holds c = walked-start
 
 mul-is-in-range : tie.Need-mul-is-in-range Inv-loop μ-loop
 mul-is-in-range c = search needs
@@ -39,9 +39,10 @@ is-in-range-requires : tie.Need-is-in-range-requires Inv-loop μ-loop
 is-in-range-requires c κs = search needs
 
 returns : tie.Need-returns Inv-loop μ-loop
+unfolding rowInRange
 returns c =
     let in-loop = c .before .before in
-    sym (tested-fails row-test zeroReading (in-loop .before .loop .inv) (inside in-loop) (sym (c .before .is-in-range .ensures) ∙ not-true _ (c .if1 .taken)))
+    sym (walked-stops (all-walk readingInRange noReading _) (in-loop .before .loop .inv) (inside in-loop) (sym (c .before .is-in-range .ensures) ∙ not-true _ (c .if1 .taken)))
 
 add-i : tie.Need-add-i Inv-loop μ-loop
 add-i c = search needs
@@ -52,12 +53,13 @@ loop-less c = search needs
 loop-again : tie.Need-loop-again Inv-loop μ-loop
 loop-again c =
     let in-loop = c .before .before in
-    tested-next row-test zeroReading (in-loop .before .loop .inv) (inside in-loop) (sym (c .before .is-in-range .ensures) ∙ not-false _ (c .if1 .left))
+    walked-next (all-walk readingInRange noReading _) (in-loop .before .loop .inv) (inside in-loop) (sym (c .before .is-in-range .ensures) ∙ not-false _ (c .if1 .left))
 
 returns-2 : tie.Need-returns-2 Inv-loop μ-loop
+unfolding rowInRange
 returns-2 c =
     let all : length (c .before .before .args .t1) ≤ c .before .loop .i = omega (arith, five (c .before .before)) in
-    sym (tested-end row-test (c .before .loop .inv) all)
+    sym (walked-end (all-walk readingInRange noReading _) (c .before .loop .inv) all)
 
 pub row-in-range-spec : {M : Type 1} → statement M
 row-in-range-spec =

@@ -1,20 +1,20 @@
--- The invariant, `Moving`: the rows from row `i` on are moved. Its laws say what a turn and the end make of it.
+-- The invariant, `Shifting`: the rows from row `i` on are shifted. Its laws say what a turn and the end make of it.
 use mathlib.Core.Path.{_∙_}
 use mathlib.Core.List.{[]}
 use borrow.Author.Needs.{needs}
-use Rattle.energy.specs.MoveLaws.{Moving, moving-start, moving-next, moving-end}
+use Rattle.laws.specs.ShiftLaws.{Shifting, shifting-start, shifting-next, shifting-end}
 use Rattle.energy.specs.EnergiesLaws.{settled-fronts}
 use Rattle.energy.proofs.rows.settled.Statement.{statement}
 use Rattle.energy.proofs.rows.settled.Tie as tie
 
 abbrev Inv-loop : tie.InvT-loop
-Inv-loop rows next₀ i₀ next i = Moving 12 rows i next
+Inv-loop rows next₀ i₀ next i = Shifting 12 rows i next
 
 abbrev μ-loop : tie.MeasureT-loop
 μ-loop rows next₀ i₀ next i = i
 
 loop-holds : tie.Need-loop-holds Inv-loop μ-loop
-loop-holds c = moving-start 12 (c .args .t1) (c .good .0 .1 .0 .1)
+loop-holds c = shifting-start 12 (c .args .t1) (c .good .0 .1 .0 .1)
 
 sub-row : tie.Need-sub-row Inv-loop μ-loop
 sub-row c = search needs
@@ -38,10 +38,10 @@ loop-less : tie.Need-loop-less Inv-loop μ-loop
 loop-less c = search needs
 
 loop-again : tie.Need-loop-again Inv-loop μ-loop
-loop-again c = moving-next [] (c .before .before .loop .inv) (c .before .loop-test .taken)
+loop-again c = shifting-next [] (c .before .before .loop .inv) (c .before .loop-test .taken)
 
 returns : tie.Need-returns Inv-loop μ-loop
-returns c = moving-end (c .before .loop .inv) (c .loop-test .left) ∙ settled-fronts (c .before .before .args .t1)
+returns c = shifting-end (c .before .loop .inv) (c .loop-test .left) ∙ settled-fronts (c .before .before .args .t1)
 
 pub settled-spec : {M : Type 1} → statement M
 settled-spec =

@@ -42,14 +42,6 @@ returns-8 : tie.Need-returns-8
 unfolding inRange
 returns-8 c = c .settlement-day-in-range .ensures ∙ range (c .before .before .before) _ (c .before .enum-told8 .given .1)
 
-returns-9 : tie.Need-returns-9
-unfolding inRange
-returns-9 c = c .settlement-day-in-range2 .ensures ∙ range (c .before .before .before) _ (c .before .enum-told9 .given .1)
-
-returns-10 : tie.Need-returns-10
-unfolding inRange
-returns-10 c = c .settlement-day-in-range3 .ensures ∙ range (c .before .before .before) _ (c .before .enum-told10 .given .1)
-
 pub in-range-spec : {M : Type 1} → statement M
 in-range-spec =
     tie.close
@@ -67,10 +59,6 @@ in-range-spec =
     (λ c. search needs)
     (λ c. search needs)
     (λ c κs. search needs)
-    (λ c. search needs)
-    (λ c κs. search needs)
-    (λ c. search needs)
-    (λ c κs. search needs)
     returns
     returns-2
     returns-3
@@ -78,6 +66,4 @@ in-range-spec =
     returns-5
     returns-6
     returns-7
-    returns-8
-    returns-9
-    returns-10)
+    returns-8)

@@ -1,7 +1,8 @@
 -- The digits looked at and the range are those of `minutesInRange`.
 use mathlib.Core.Path.{ap, _∙_}
 use borrow.Author.Needs.{needs}
-use Rattle.item.specs.Content.{within, minutesInRange}
+use Rattle.item_range.specs.Range.{within}
+use Rattle.item.specs.Content.{minutesInRange}
 use Rattle.item.proofs.content.minutes_in_range.Statement.{statement}
 use Rattle.item.proofs.content.minutes_in_range.Tie as tie
 

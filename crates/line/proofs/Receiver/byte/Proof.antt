@@ -1,4 +1,4 @@
--- Each arm of the match is a case of `called`: what `decide` says of the verdict is what the law of that case asks.
+-- Each arm of the match is a case of `called`: what `verdict_on` says of the verdict is what the law of that case asks.
 use Prim.Native.Nat.{ℕ, _+_, _≤_}
 use mathlib.Core.Path.{_≡_, sym, subst, _∙_}
 use native.Mathlib.Omega.{arith}
@@ -7,11 +7,11 @@ use lib.ListN.{length}
 use Rattle.frame.specs.RecognitionLaws.{open-most}
 use Rattle.line.specs.Receiver.{keptBytes}
 use Rattle.line_verdict.specs.VerdictLaws.{with-length}
-use Rattle.line_verdict.specs.DecidedLaws.{within-most, Decides, decides}
-use Rattle.line.specs.StepLaws.{call-bad, call-short, call-skips, call-grows, call-whole, call-falls}
+use Rattle.line_verdict.specs.VerdictOnLaws.{within-most, VerdictSays, verdict-says}
+use Rattle.line.specs.CallCases.{call-bad, call-short, call-skips, call-still-open, call-whole, call-begins-none}
 use Rattle.line_terms.specs.Line.{byte}
 use Rattle.line_verdict.specs.declared.Verdict.{Verdict}
-use Rattle.line_verdict.specs.declared.Verdict.the-variants.{Bad, Short, Skips, Grows, Whole, Falls}
+use Rattle.line_verdict.specs.declared.Verdict.the-variants.{Bad, Short, Skips, StillOpen, Whole, BeginsNone}
 use Rattle.line.proofs.Receiver.byte.Statement.{statement}
 use Rattle.line.proofs.Receiver.byte.Tie as tie
 
@@ -19,28 +19,28 @@ use Rattle.line.proofs.Receiver.byte.Tie as tie
 kept-size : (s : tie.Start) → length (s .args .t1 .kept) ≡ 211
 kept-size s = search needs
 
-abbrev at-start : tie.After-decide → tie.Start
+abbrev at-start : tie.After-verdict-on → tie.Start
 at-start c = c .before .before .before .before
 
 -- what a verdict says of the receiver, the byte and the memory that the call began with
 abbrev Says : tie.Start → Verdict → Type 0
-Says s = Decides (s .args .t1 .kept) (s .args .t1 .count) (s .args .b) (length (s .args .out .now))
+Says s = VerdictSays (s .args .t1 .kept) (s .args .t1 .count) (s .args .b) (length (s .args .out .now))
 
 -- what the verdict says, in each arm
-says : (c : tie.After-decide) (v : Verdict) → c .decide .result ≡ v → Says (at-start c) v
-says c v e = let s = at-start c in subst (Says s) (sym (c .decide .ensures) ∙ e) (decides _ _ _ _ (kept-size s))
+says : (c : tie.After-verdict-on) (v : Verdict) → c .verdict-on .result ≡ v → Says (at-start c) v
+says c v e = let s = at-start c in subst (Says s) (sym (c .verdict-on .ensures) ∙ e) (verdict-says _ _ _ _ (kept-size s))
 
 skips : (c : tie.After-enum-told3) → Says (at-start (c .before .before)) Skips
 skips c = says (c .before .before) Skips (c .enum-told3 .given .1)
 
-grows : (c : tie.After-enum-told4) → Says (at-start (c .before .before)) Grows
-grows c = says (c .before .before) Grows (c .enum-told4 .given .1)
+still-open : (c : tie.After-enum-told4) → Says (at-start (c .before .before)) StillOpen
+still-open c = says (c .before .before) StillOpen (c .enum-told4 .given .1)
 
 whole : (c : tie.After-enum-told5) → Says (at-start (c .before .before)) Whole
 whole c = says (c .before .before) Whole (c .enum-told5 .given .1)
 
-falls : (c : tie.After-enum-told6) → Says (at-start (c .before .before)) Falls
-falls c = says (c .before .before) Falls (c .enum-told6 .given .1)
+begins-none : (c : tie.After-enum-told6) → Says (at-start (c .before .before)) BeginsNone
+begins-none c = says (c .before .before) BeginsNone (c .enum-told6 .given .1)
 
 -- where the kept bytes grow there is room for one more
 room : (c : tie.After-enum-told4) → at-start (c .before .before) .args .t1 .count + 1 ≤ 211
@@ -49,8 +49,8 @@ room c =
     let s = at-start (c .before .before) in
     let r = s .args .t1 in
     let size : length (r .kept) ≡ 211 = kept-size s in
-    let most : r .count ≤ 211 = within-most (r .kept) (r .count) (grows c .0) in
-    subst (λ (n : ℕ). n ≤ 211) (with-length (r .kept) (r .count) (s .args .b) (omega arith)) (open-most _ (grows c .2))
+    let most : r .count ≤ 211 = within-most (r .kept) (r .count) (still-open c .0) in
+    subst (λ (n : ℕ). n ≤ 211) (with-length (r .kept) (r .count) (s .args .b) (omega arith)) (open-most _ (still-open c .2))
 
 element-write-self : tie.Need-element-write-self
 element-write-self c = omega (arith, room c)
@@ -73,12 +73,12 @@ add-t19 c =
     let s = at-start (w .before .before) in
     omega (arith, within-most (s .args .t1 .kept) (s .args .t1 .count) (whole w .0))
 
-settle-requires : tie.Need-settle-requires
+rescan-requires : tie.Need-rescan-requires
 unfolding keptBytes
-settle-requires c κs =
+rescan-requires c κs =
     let w = c .before .before in
     let s = at-start (w .before .before) in
-    ((kept-size s, within-most (s .args .t1 .kept) (s .args .t1 .count) (falls w .0), falls w .1), falls w .2)
+    ((kept-size s, within-most (s .args .t1 .kept) (s .args .t1 .count) (begins-none w .0), begins-none w .1), begins-none w .2)
 
 returns : tie.Need-returns
 returns c =
@@ -102,8 +102,8 @@ returns-4 : tie.Need-returns-4
 unfolding keptBytes
 returns-4 c =
     let s = at-start (c .before .before) in
-    let w = grows c in
-    call-grows (s .args .t1) (s .args .b) (s .args .out .now) (w .0) (w .1) (kept-size s) (w .2)
+    let w = still-open c in
+    call-still-open (s .args .t1) (s .args .b) (s .args .out .now) (w .0) (w .1) (kept-size s) (w .2)
 
 returns-5 : tie.Need-returns-5
 unfolding keptBytes
@@ -119,9 +119,9 @@ unfolding keptBytes
 returns-6 c =
     let e = c .before .before .before .before .before in
     let s = at-start (e .before .before) in
-    let w = falls e in
-    call-falls (s .args .t1) (s .args .b) (s .args .out .now) (w .0) (w .1) (c .before .before .settle .last .0) (c .before .before .settle .last .1 .1 .1 .0)
-    (c .before .before .settle .result) (c .before .before .settle .ensures)
+    let w = begins-none e in
+    call-begins-none (s .args .t1) (s .args .b) (s .args .out .now) (w .0) (w .1) (c .before .before .rescan .last .0) (c .before .before .rescan .last .1 .1 .1 .0)
+    (c .before .before .rescan .result) (c .before .before .rescan .ensures)
 
 pub byte-spec : {M : Type 1} → statement M
 byte-spec =
@@ -138,7 +138,7 @@ byte-spec =
     join-requires
     add-t19
     (λ c. search needs)
-    settle-requires
+    rescan-requires
     returns
     returns-2
     returns-3

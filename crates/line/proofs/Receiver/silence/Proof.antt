@@ -8,8 +8,8 @@ use borrow.Author.Tests.{not-true, not-false}
 use lib.ListN.{length}
 use Rattle.line_terms.specs.Line.{silence}
 use Rattle.line.specs.Receiver.{withinRange, keptBytes}
-use Rattle.line_verdict.specs.DecidedLaws.{within-most}
-use Rattle.line.specs.StepLaws.{call-bad, call-short, call-silent}
+use Rattle.line_verdict.specs.VerdictOnLaws.{within-most}
+use Rattle.line.specs.CallCases.{call-bad, call-short, call-silent}
 use Rattle.line.proofs.Receiver.silence.Statement.{statement}
 use Rattle.line.proofs.Receiver.silence.Tie as tie
 
@@ -34,8 +34,8 @@ returns-2 c =
     let s = at-start (c .before .before) in
     call-short (s .args .t1) silence (s .args .out .now) (good (c .before)) (c .if2 .taken)
 
-give-up-requires : tie.Need-give-up-requires
-give-up-requires c κs =
+drain-at-silence-requires : tie.Need-drain-at-silence-requires
+drain-at-silence-requires c κs =
     let e = c .before .before .before .before in
     let s = at-start (e .before .before) in
     let most : s .args .t1 .count ≤ 211 = within-most (s .args .t1 .kept) (s .args .t1 .count) (good (e .before)) in
@@ -49,9 +49,9 @@ returns-3 c =
     let g = c .before .before .before in
     let e = g .before .before .before .before .before in
     let s = at-start (e .before .before) in
-    call-silent (s .args .t1) (s .args .out .now) (g .give-up .last .1 .1 .0) (g .give-up .result) (good (e .before)) (e .if2 .left) (g .give-up .ensures)
+    call-silent (s .args .t1) (s .args .out .now) (g .drain-at-silence .last .1 .1 .0) (g .drain-at-silence .result) (good (e .before)) (e .if2 .left) (g .drain-at-silence .ensures)
 
 pub silence-spec : {M : Type 1} → statement M
 silence-spec =
     tie.close
-    (tie.spec (λ c κs. search needs) returns returns-2 give-up-requires (λ c. search needs) returns-3)
+    (tie.spec (λ c κs. search needs) returns returns-2 drain-at-silence-requires (λ c. search needs) returns-3)

@@ -3,17 +3,18 @@
 use Prim.Native.Nat.{ℕ, _≤_, _+_, _-_}
 use mathlib.Core.Path.{_≡_, ap, sym, _∙_, subst}
 use borrow.Rule.Slice.PartMut.{putMid}
-use Rattle.line_terms.specs.Scan.{settled}
+use Rattle.line_terms.specs.Scan.{beforeSilence}
 use mathlib.Core.List.{List}
 use native.Mathlib.Omega.{arith}
 use borrow.Author.Needs.{needs}
+use borrow.Rule.Slice.PartAt.{part-to-end}
 use borrow.Author.Tests.{not-true, not-false}
 use lib.ListN.{length, take, drop, length-take, length-drop}
 use Rattle.laws.specs.MemoryLaws.{copied}
 use Rattle.laws.specs.Memory.{over}
 use Rattle.frame.specs.Recognition.{recognised}
 use Rattle.frame.specs.declared.Recognised.the-variants.{Whole}
-use Rattle.line.specs.DrainLaws.{rest-part, Draining, draining-start, draining-next, draining-whole, draining-end, draining-open, draining-closed, whole-fits, whole-least}
+use Rattle.line.specs.DrainLaws.{Draining, draining-start, draining-next, draining-whole, draining-end, draining-open, draining-closed, whole-fits, whole-least}
 use Rattle.line.proofs.drain.drain.Statement.{statement}
 use Rattle.line.proofs.drain.drain.Tie as tie
 
@@ -26,7 +27,7 @@ abbrev μ-loop : tie.MeasureT-loop
 -- what the bytes from the place on begin with
 seen : (c : tie.After-recognise Inv-loop μ-loop) →
     c .recognise .result ≡ recognised (drop (c .before .before .before .loop .at) (c .before .before .before .before .before .before .args .line .now))
-seen c = c .recognise .ensures ∙ ap recognised (rest-part (c .before .before .before .loop .at) (c .before .before .before .before .before .before .args .line .now))
+seen c = c .recognise .ensures ∙ ap recognised (part-to-end (c .before .before .before .before .before .before .args .line .now) (c .before .before .before .loop .at))
 
 -- the frame that stands there
 abbrev size : tie.After-known-told Inv-loop μ-loop → ℕ
@@ -151,10 +152,10 @@ loop-less-3 : tie.Need-loop-less-3 Inv-loop μ-loop
 loop-less-3 c = search needs
 
 loop-again-3 : tie.Need-loop-again-3 Inv-loop μ-loop
-unfolding settled
+unfolding beforeSilence
 loop-again-3 c =
     let r = c .before .before in
-    draining-next _ _ _ _ _ _ _ _ (r .before .before .before .loop .inv) (r .before .before .loop-test .taken) (ap (settled _) (sym (seen r) ∙ c .enum-told2 .given .1))
+    draining-next _ _ _ _ _ _ _ _ (r .before .before .before .loop .inv) (r .before .before .loop-test .taken) (ap (beforeSilence _) (sym (seen r) ∙ c .enum-told2 .given .1))
 
 same-length-2 : tie.Need-same-length-2 Inv-loop μ-loop
 same-length-2 c = search needs

@@ -8,7 +8,7 @@ use lib.ListN.{length}
 use lib.Seq.{length-take-le}
 use Rattle.laws.specs.Memory.{outcome}
 use Rattle.recording.specs.declared.BlockAnswer.{BlockAnswer}
-use Rattle.recording.specs.BlockLaws.{Delivers, read-delivers, delivers-within}
+use Rattle.recording.specs.BlockLaws.{BlockDelivers, read-delivers, delivers-within}
 use Rattle.listing.specs.BlockLaws.{short-refused, reading-refused, delivers-asked, delivers-listed}
 use Rattle.listing.proofs.block.list_block.Statement.{statement}
 use Rattle.listing.proofs.block.list_block.Tie as tie
@@ -23,7 +23,7 @@ fits c = omega arith
 delivers : (c : tie.After-read2) →
     let call = c .before .before .before .before in
     let args = call .before .before .before .before .before .before .args in
-    Delivers (args .block .now) (args .ended) (args .frames .now) (call .read-block .last .1 .1 .0) (c .read2 .given .0 .0) (c .read2 .given .0 .1 .1 .0)
+    BlockDelivers (args .block .now) (args .ended) (args .frames .now) (call .read-block .last .1 .1 .0) (c .read2 .given .0 .0) (c .read2 .given .0 .1 .1 .0)
 delivers c =
     let call = c .before .before .before .before in
     let known = call .read-block .ensures in

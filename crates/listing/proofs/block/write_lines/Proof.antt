@@ -1,9 +1,11 @@
 -- The invariant is `Lining`: a turn and the way out are its laws. The measure is what is left of the frames.
-use Prim.Native.Nat.{_≤_, _+_, _-_}
+use Prim.Native.Nat.{_-_}
+use mathlib.Core.Path.{sym, subst}
 use native.Mathlib.Omega.{arith}
 use borrow.Author.Needs.{needs}
-use lib.ListN.{length, getD}
-use Rattle.listing.specs.LinesLaws.{Lining, lining-start, lining-within, lining-fits, lining-asked, lining-next, lining-end}
+use lib.ListN.{length}
+use Rattle.frame.specs.EndToEndLaws.{NextFrame, next-frame}
+use Rattle.listing.specs.LinesLaws.{Lining, lining-start, lining-fits, lining-asked, lining-next, lining-end}
 use Rattle.listing.proofs.block.write_lines.Statement.{statement}
 use Rattle.listing.proofs.block.write_lines.Tie as tie
 
@@ -13,72 +15,38 @@ Inv-loop frames out₀ at₀ used₀ out at used = Lining frames out₀ out at u
 abbrev μ-loop : tie.MeasureT-loop
 μ-loop frames out₀ at₀ used₀ out at used = length frames - at
 
--- the frame at the place ends within the frames
-within : (c : tie.In-loop Inv-loop μ-loop) →
-    let frames = c .before .before .before .before .args .frames .now in
-    c .before .loop .at + 12 + getD frames (c .before .loop .at + 9) 0 ≤ length frames
-within c = lining-within (c .before .loop .inv) (c .loop-test .taken)
+-- the function's start
+abbrev start : tie.After-next-end Inv-loop μ-loop → tie.Start Inv-loop μ-loop
+start c = c .before .before .before .before .before
+
+-- the frame at the place, and where it ends
+front : (c : tie.After-next-end Inv-loop μ-loop) → NextFrame (start c .args .frames .now) (c .before .before .loop .at) (c .next-end .result)
+front c =
+    subst (NextFrame (start c .args .frames .now) (c .before .before .loop .at)) (sym (c .next-end .ensures))
+    (next-frame _ _ (c .before .before .loop .inv .left) (c .before .loop-test .taken))
 
 loop-holds : tie.Need-loop-holds Inv-loop μ-loop
 loop-holds c = lining-start _ _ (c .before .before .pre .0)
 
-add-count : tie.Need-add-count Inv-loop μ-loop
-add-count c = search needs
-
-shared-slice-read-count : tie.Need-shared-slice-read-count Inv-loop μ-loop
-shared-slice-read-count c = omega (arith, within (c .before))
-
-add-next : tie.Need-add-next Inv-loop μ-loop
-add-next c = search needs
-
-cast-next : tie.Need-cast-next Inv-loop μ-loop
-cast-next c = omega (arith, c .shared-slice-known2 .given (c .before .before .loop .at + 9))
-
-add-next-2 : tie.Need-add-next-2 Inv-loop μ-loop
-add-next-2 c = omega (arith, within (c .before), c .before .before .before .before .before .good .0 .0)
-
-sub-write-line : tie.Need-sub-write-line Inv-loop μ-loop
-sub-write-line c = search needs
-
-part-write-line-start : tie.Need-part-write-line-start Inv-loop μ-loop
-part-write-line-start c = search needs
-
-part-write-line-end : tie.Need-part-write-line-end Inv-loop μ-loop
-part-write-line-end c = within (c .before)
-
-sub-write-line-2 : tie.Need-sub-write-line-2 Inv-loop μ-loop
-sub-write-line-2 c = search needs
-
-part-write-line-start-2 : tie.Need-part-write-line-start-2 Inv-loop μ-loop
-part-write-line-start-2 c = search needs
-
-part-write-line-end-2 : tie.Need-part-write-line-end-2 Inv-loop μ-loop
-part-write-line-end-2 c = search needs
-
 write-line-requires : tie.Need-write-line-requires Inv-loop μ-loop
 write-line-requires c κs =
-    let turn = c .before .before .before in
-    lining-asked (turn .before .loop .inv) (turn .loop-test .taken) (turn .before .before .before .before .pre .1)
-
-text-length-requires : tie.Need-text-length-requires Inv-loop μ-loop
-text-length-requires c κs = search needs
+    let next = c .before .before in
+    lining-asked (next .before .before .loop .inv) (front next) (start next .pre .1)
 
 add-used : tie.Need-add-used Inv-loop μ-loop
 add-used c =
-    let turn = c .before .before .before .before .before .before .before in
-    omega (arith, c .text-length .ensures, lining-fits (turn .before .loop .inv) (turn .loop-test .taken) (turn .before .before .before .before .pre .1), turn .before .before .before .before .good .1 .0 .0)
+    let written = c .before .before in
+    let next = written .before .before .before in
+    omega (arith, written .write-line .ensures .0, lining-fits (next .before .before .loop .inv) (front next) (start next .pre .1), start next .good .1 .0 .0)
 
 loop-less : tie.Need-loop-less Inv-loop μ-loop
-loop-less c = omega (arith, within (c .before .before .before .before .before .before .before))
+loop-less c = omega (arith, front (c .before .before .before .before .before))
 
 loop-again : tie.Need-loop-again Inv-loop μ-loop
 loop-again c =
-    let written = c .before .before .before in
-    let turn = written .before .before .before .before in
-    lining-next (turn .before .loop .inv) (turn .loop-test .taken) (turn .before .before .before .before .pre .1) (written .write-line .ensures) (c .text-length .ensures)
-
-same-length : tie.Need-same-length Inv-loop μ-loop
-same-length c = search needs
+    let written = c .before .before in
+    let next = written .before .before .before in
+    lining-next (next .before .before .loop .inv) (front next) (start next .pre .1) (written .write-line .ensures .1) (written .write-line .ensures .0)
 
 returns : tie.Need-returns Inv-loop μ-loop
 returns c = lining-end (c .before .loop .inv) (c .loop-test .left)
@@ -90,21 +58,16 @@ write-lines-spec =
     Inv-loop
     μ-loop
     loop-holds
-    add-count
-    shared-slice-read-count
-    add-next
-    cast-next
-    add-next-2
-    sub-write-line
-    part-write-line-start
-    part-write-line-end
-    sub-write-line-2
-    part-write-line-start-2
-    part-write-line-end-2
+    (λ c κs. search needs)
+    (λ c. omega (arith, front c))
+    (λ c. omega (arith, front c))
+    (λ c. front c .within)
+    (λ c. search needs)
+    (λ c. search needs)
+    (λ c. search needs)
     write-line-requires
-    text-length-requires
     add-used
     loop-less
     loop-again
-    same-length
+    (λ c. search needs)
     returns)

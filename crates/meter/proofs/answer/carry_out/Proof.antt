@@ -20,10 +20,10 @@ use Rattle.meter_decision.specs.Decision.{checksOf}
 use Rattle.meter_decision.specs.ChecksLaws.{named-level}
 use Rattle.meter_decision.specs.DecisionLaws.{Carries, carries}
 use Rattle.meter_decision.specs.declared.Decision.{Decision}
-use Rattle.meter.specs.Meter.{withPasswords}
+use Rattle.meter.specs.Meter.{withPasswords, untouched}
 use Rattle.meter.specs.declared.Meter.{Meter}
-use Rattle.meter.specs.Answer.{Treatment, replies, replyData, meterAfter, carriedOut, delivered}
-use Rattle.meter.specs.AnswerSteps.{normally, treatedAs, carried-decided}
+use Rattle.meter.specs.Answer.{Treatment, replies, replyData, meterAfter, carriedOut, delivered, valueAsked}
+use Rattle.meter.specs.CarriedOutLaws.{normally, treatedAs, carried-decided}
 use borrow.Author.Needs.{needs}
 use Rattle.meter.proofs.answer.carry_out.Statement.{statement}
 use Rattle.meter.proofs.answer.carry_out.Tie as tie
@@ -32,8 +32,12 @@ module _ (c : tie.After-decide) where
   abbrev start : tie.Start
   start = c .before .before .before .before .before .before
 
-  abbrev meant : List ℕ
-  meant = start .args .meant .now
+  abbrev payload : List ℕ
+  payload = start .args .payload .now
+
+  -- the value held for the item asked for
+  abbrev held : List ℕ
+  held = let a = start .args in valueAsked payload (a .meter) (a .forward) (a .reverse)
 
   -- the control code of the normal reply
   normal-control : c .before .reply-to .result ≡ replyTo (controlFor (start .args .command)) false
@@ -42,34 +46,34 @@ module _ (c : tie.After-decide) where
   -- what the command comes to, and what a decision to carry it out says
   module _ (d : Decision) (e : c .decide .result ≡ d) where
     comes : let a = start .args in
-        delivered (treatedAs (a .command) meant (a .meter) (a .forward) (a .reverse) d) (a .meter) (a .out .now)
-        ≡ delivered (carriedOut (a .command) meant (a .meter) (a .forward) (a .reverse)) (a .meter) (a .out .now)
+        delivered (treatedAs (a .command) payload (a .meter) held d) (a .meter) (a .out .now)
+        ≡ delivered (carriedOut (a .command) payload (a .meter) held) (a .meter) (a .out .now)
     comes =
         let a = start .args in
         ap (λ (t : Treatment). delivered t (a .meter) (a .out .now))
-        (ap (treatedAs (a .command) meant (a .meter) (a .forward) (a .reverse)) (sym e ∙ c .decide .ensures)
-        ∙ carried-decided (a .command) meant (a .meter) (a .forward) (a .reverse))
+        (ap (treatedAs (a .command) payload (a .meter) held) (sym e ∙ c .decide .ensures)
+        ∙ carried-decided (a .command) payload (a .meter) held)
 
-    says : let a = start .args in Carries (a .command) meant (a .meter .key) (a .meter .passwords) d
+    says : let a = start .args in Carries (a .command) payload (a .meter .key) (a .meter .passwords) d
     says =
         let a = start .args in
-        subst (Carries (a .command) meant (a .meter .key) (a .meter .passwords)) (sym (c .decide .ensures) ∙ e)
-        (carries (a .command) meant (a .meter .key) (a .meter .passwords))
+        subst (Carries (a .command) payload (a .meter .key) (a .meter .passwords)) (sym (c .decide .ensures) ∙ e)
+        (carries (a .command) payload (a .meter .key) (a .meter .passwords))
 
   -- the normal reply to a command
   replied : (command : Command) → start .args .command ≡ command → let a = start .args in
       delivered
-      (replies (c .before .reply-to .result) (replyData command meant (a .meter) (a .forward) (a .reverse)) (meterAfter command meant (a .meter)))
+      (replies (c .before .reply-to .result) (replyData command payload (a .meter) held) (meterAfter command payload (a .meter)))
       (a .meter) (a .out .now)
-      ≡ delivered (normally (a .command) meant (a .meter) (a .forward) (a .reverse)) (a .meter) (a .out .now)
+      ≡ delivered (normally (a .command) payload (a .meter) held) (a .meter) (a .out .now)
   replied command e =
       let a = start .args in
       ap
-      (λ (n : ℕ). delivered (replies n (replyData command meant (a .meter) (a .forward) (a .reverse)) (meterAfter command meant (a .meter))) (a .meter) (a .out .now))
+      (λ (n : ℕ). delivered (replies n (replyData command payload (a .meter) held) (meterAfter command payload (a .meter))) (a .meter) (a .out .now))
       normal-control
       ∙ ap
       (λ (k : Command). delivered
-      (replies (replyTo (controlFor (a .command)) false) (replyData k meant (a .meter) (a .forward) (a .reverse)) (meterAfter k meant (a .meter))) (a .meter)
+      (replies (replyTo (controlFor (a .command)) false) (replyData k payload (a .meter) held) (meterAfter k payload (a .meter))) (a .meter)
       (a .out .now))
       (sym e)
 
@@ -79,10 +83,10 @@ six s = search needs
 
 -- the checks of 15 and of 18 that the parts need
 new-address : (c : tie.After-enum-told2) → let s = start (c .before .before) in
-    (s .args .command ≡ WriteAddress) × AllHold (checksOf WriteAddress (meant (c .before .before)) (s .args .meter .key) (s .args .meter .passwords))
+    (s .args .command ≡ WriteAddress) × AllHold (checksOf WriteAddress (payload (c .before .before)) (s .args .meter .key) (s .args .meter .passwords))
 new-address c = says (c .before .before) _ (c .enum-told2 .given .1)
 
-address-six : (c : tie.After-enum-told2) → length (meant (c .before .before)) ≡ 6
+address-six : (c : tie.After-enum-told2) → length (payload (c .before .before)) ≡ 6
 unfolding checksOf
 address-six c = eqb-true _ _ (new-address c .1 .0)
 
@@ -91,11 +95,11 @@ decide-of c = c .before .before .before
 
 new-password : (c : tie.After-known-told5) → let s = start (decide-of c) in
     (s .args .command ≡ ChangePassword)
-    × (c .before .decision5 .given .0 .0 ≡ newLevelOf (meant (decide-of c)))
-    × AllHold (checksOf ChangePassword (meant (decide-of c)) (s .args .meter .key) (s .args .meter .passwords))
+    × (c .before .decision5 .given .0 .0 ≡ newLevelOf (payload (decide-of c)))
+    × AllHold (checksOf ChangePassword (payload (decide-of c)) (s .args .meter .key) (s .args .meter .passwords))
 new-password c = says (decide-of c) _ (c .before .decision5 .given .1)
 
-twelve : (c : tie.After-known-told5) → length (meant (decide-of c)) ≡ 12
+twelve : (c : tie.After-known-told5) → length (payload (decide-of c)) ≡ 12
 unfolding checksOf
 twelve c = eqb-true _ _ (new-password c .2 .0)
 
@@ -112,7 +116,7 @@ reply-value-requires c κs =
 
 reply-requires-2 : tie.Need-reply-requires-2
 reply-requires-2 c κs =
-    let s = start (c .before .before .before .before .before) in
+    let s = start (c .before .before .before .before .before .before) in
     (omega (arith, six s), s .pre)
 
 written-requires : tie.Need-written-requires
@@ -129,7 +133,7 @@ part-with-password-end c = omega (arith, twelve c)
 with-password-requires : tie.Need-with-password-requires
 with-password-requires c κs =
     let k = c .before in
-    (level k, part-length 9 3 (meant (decide-of k)) (omega (arith, twelve k)))
+    (level k, part-length 9 3 (payload (decide-of k)) (omega (arith, twelve k)))
 
 part-reply-end : tie.Need-part-reply-end
 part-reply-end c = omega (arith, twelve (c .before .before))
@@ -137,7 +141,7 @@ part-reply-end c = omega (arith, twelve (c .before .before))
 reply-requires-5 : tie.Need-reply-requires-5
 reply-requires-5 c κs =
     let k = c .before .before .before .before in
-    (omega (arith, part-length 8 4 (meant (decide-of k)) (omega (arith, twelve k))), start (decide-of k) .pre)
+    (omega (arith, part-length 8 4 (payload (decide-of k)) (omega (arith, twelve k))), start (decide-of k) .pre)
 
 returns : tie.Need-returns
 unfolding delivered
@@ -150,12 +154,14 @@ unfolding delivered
 returns-2 c =
     let r = c .before .before in
     let t = r .before .before .before in
-    let k = t .before in
+    let u = t .before in
+    let k = u .before in
     let d = k .before .before .before in
     let a = start d .args in
     let byte : ℕ = k .before .decision2 .given .0 .0 in
     r .reply .ensures
-    ∙ ap (λ (n : ℕ). delivered (replies n (byte ∷ []) (a .meter)) (a .meter) (a .out .now))
+    ∙ ap (λ (m : Meter). delivered (replies (t .reply-to2 .result) (byte ∷ []) m) (a .meter) (a .out .now)) (u .untouched .ensures)
+    ∙ ap (λ (n : ℕ). delivered (replies n (byte ∷ []) (untouched (a .meter))) (a .meter) (a .out .now))
     (t .reply-to2 .ensures ∙ ap (λ (n : ℕ). replyTo n true) (d .before .before .control-of .ensures))
     ∙ comes d _ (k .before .decision2 .given .1)
 
@@ -170,12 +176,15 @@ returns-3 c =
     ∙ comes d _ (k .before .decision3 .given .1)
 
 returns-4 : tie.Need-returns-4
-unfolding replyData meterAfter
+unfolding delivered replyData meterAfter
 returns-4 c =
     let r = c .before .before in
-    let t = r .before .before .before .before in
+    let u = r .before .before .before in
+    let t = u .before .before in
     let d = t .before .before in
+    let a = start d .args in
     r .reply2 .ensures
+    ∙ ap (λ (m : Meter). delivered (replies (d .before .reply-to .result) (a .meter .address) m) (a .meter) (a .out .now)) (u .untouched2 .ensures)
     ∙ replied d ReadAddress (says d _ (t .enum-told .given .1) .0)
     ∙ comes d _ (t .enum-told .given .1)
 
@@ -213,7 +222,7 @@ returns-7 c =
     let k = w .before .before in
     let d = decide-of k in
     let a = start d .args in
-    let own : List ℕ = meant d in
+    let own : List ℕ = payload d in
     let after : w .with-password .result ≡ meterAfter ChangePassword own (a .meter) =
     w .with-password .ensures ∙ ap (λ (n : ℕ). withPasswords (withPart (3 * n) (part 9 3 own) (a .meter .passwords)) (a .meter)) (new-password k .1) in
     let reply : part 8 4 own ≡ newLevelOf own ∷ newPasswordOf own = ap (take 4) (drop-cons own 8 0 (omega (arith, twelve k))) in
@@ -234,11 +243,13 @@ carry-out-spec =
     (λ c κs. search needs)
     (λ c. search needs)
     (λ c κs. search needs)
+    (λ c κs. search needs)
     (λ c. search needs)
     (λ c κs. search needs)
     (λ c. search needs)
     reply-value-requires
     (λ c. search needs)
+    (λ c κs. search needs)
     (λ c. search needs)
     reply-requires-2
     (λ c. search needs)

@@ -15,7 +15,7 @@ use Rattle.laws.specs.Memory.{Outcome, outcome, over}
 use Rattle.laws.specs.MemoryLaws.{copied, over-length}
 use Rattle.laws.specs.JoinLaws.{two-length, front-of-two}
 use Rattle.item.specs.Table.{itemOf}
-use Rattle.item.specs.TableLaws.{listed-most}
+use Rattle.item.specs.TableLaws.{listed-fits}
 use Rattle.item.specs.declared.table.Item.{Item}
 use Rattle.item.specs.declared.table.Lookup.{Lookup}
 use Rattle.item.specs.declared.table.Lookup.the-variants.{Listed, NotListed}
@@ -25,32 +25,33 @@ use Rattle.meter_decision.specs.Decision.{isListed, checksOf}
 use Rattle.meter_holding.specs.HoldingLaws.{value-written}
 use Rattle.meter_holding.specs.declared.Held.{Held}
 use Rattle.meter_holding.specs.declared.Held.the-variants.{Length}
-use Rattle.meter.specs.Meter.{Sized, valueHeld}
+use Rattle.meter.specs.Meter.{MeterSized, untouched, valueHeld}
+use Rattle.meter.specs.declared.Meter.{Meter}
 use Rattle.meter.specs.MeterLaws.{value-length}
-use Rattle.meter.specs.Answer.{replies, replyData, delivered}
+use Rattle.meter.specs.Answer.{replies, replyData, delivered, valueAsked}
 use borrow.Author.Needs.{needs}
 use Rattle.meter.proofs.answer.reply_value.Statement.{statement}
 use Rattle.meter.proofs.answer.reply_value.Tie as tie
 
 module _ (s : tie.Start) where
-  abbrev meant : List ℕ
-  meant = s .args .meant .now
+  abbrev payload : List ℕ
+  payload = s .args .payload .now
 
   -- the array fields' lengths
-  sized : Sized (s .args .meter)
+  sized : MeterSized (s .args .meter)
   sized = search needs
 
   -- the checks that hold
-  four : length meant ≡ 4
+  four : length payload ≡ 4
   unfolding checksOf
   four = eqb-true _ _ (s .pre .1 .0)
 
   -- the item that is asked for
-  found : (item : Item) × (itemOf (identifierOf meant) ≡ Listed item)
+  found : (item : Item) × (itemOf (identifierOf payload) ≡ Listed item)
   unfolding checksOf itemAsked
-  found = go (itemOf (identifierOf meant)) refl (s .pre .1 .1 .0)
+  found = go (itemOf (identifierOf payload)) refl (s .pre .1 .1 .0)
     where
-      go : (l : Lookup) → itemOf (identifierOf meant) ≡ l → isListed l ≡ true → (item : Item) × (itemOf (identifierOf meant) ≡ Listed item)
+      go : (l : Lookup) → itemOf (identifierOf payload) ≡ l → isListed l ≡ true → (item : Item) × (itemOf (identifierOf payload) ≡ Listed item)
       go (Listed item) e h = (item, e)
       go NotListed e h = absurd (false≢true h)
 
@@ -60,8 +61,8 @@ module _ (s : tie.Start) where
   abbrev value : List ℕ
   value = valueHeld item (s .args .meter) (s .args .forward) (s .args .reverse)
 
-  most : item .length ≤ 52
-  most = listed-most _ _ (found .1)
+  most : 4 + item .length ≤ 200
+  most = listed-fits _ _ (found .1)
 
   size : length value ≡ item .length
   size = value-length _ _ (found .1) (s .args .meter) sized (s .args .forward) (s .args .reverse)
@@ -70,11 +71,11 @@ abbrev start-of : tie.After-copy → tie.Start
 start-of c = c .before .before .before .before
 
 -- the identifier, copied over zeros
-copied-data : (c : tie.After-copy) → c .copy .last .1 .0 ≡ over (meant (start-of c)) (replicate 200 0)
-copied-data c = c .copy .ensures .1 ∙ copied (meant (start-of c)) (replicate 200 0)
+copied-data : (c : tie.After-copy) → c .copy .last .1 .0 ≡ over (payload (start-of c)) (replicate 200 0)
+copied-data c = c .copy .ensures .1 ∙ copied (payload (start-of c)) (replicate 200 0)
 
 room : (c : tie.After-copy) → length (c .copy .last .1 .0) ≡ 200
-room c = ap length (copied-data c) ∙ over-length (meant (start-of c)) (replicate 200 0) (omega (arith, four (start-of c)))
+room c = ap length (copied-data c) ∙ over-length (payload (start-of c)) (replicate 200 0) (omega (arith, four (start-of c)))
 
 abbrev copy-of : tie.After-write-value → tie.After-copy
 copy-of c = c .before .before .before .before .before
@@ -117,18 +118,18 @@ module _ (c : tie.After-known-told) where
   long : length whole ≡ 200
   long =
       let s = of-known c in
-      two-length 4 196 (item s .length) (meant s) (value s) (replicate 200 0) _ _ (copied-data (copy-of (write-of c))) (four s) (size s)
+      two-length 4 196 (item s .length) (payload s) (value s) (replicate 200 0) _ _ (copied-data (copy-of (write-of c))) (four s) (size s)
       (omega (arith, most s)) refl (ap (λ (o : Outcome Held). o .memory) (wrote (write-of c)))
 
   front : let s = of-known c in
-      take (4 + c .before .n .given .0 .0) whole ≡ replyData ReadData (meant s) (s .args .meter) (s .args .forward) (s .args .reverse)
+      take (4 + c .before .n .given .0 .0) whole ≡ replyData ReadData (payload s) (s .args .meter) (valueAsked (payload s) (s .args .meter) (s .args .forward) (s .args .reverse))
   unfolding replyData itemAsked
   front =
       let s = of-known c in
-      let together : meant s ++ value s ≡ replyData ReadData (meant s) (s .args .meter) (s .args .forward) (s .args .reverse) =
-      rw (take-all 4 (meant s) (omega (arith, four s)), found s .1) in
+      let together : payload s ++ value s ≡ replyData ReadData (payload s) (s .args .meter) (valueAsked (payload s) (s .args .meter) (s .args .forward) (s .args .reverse)) =
+      rw (take-all 4 (payload s) (omega (arith, four s)), found s .1) in
       ap (λ (n : ℕ). take (4 + n) whole) (counted c)
-      ∙ front-of-two 4 196 (item s .length) (meant s) (value s) (replicate 200 0) _ _ (copied-data (copy-of (write-of c))) (four s) (size s)
+      ∙ front-of-two 4 196 (item s .length) (payload s) (value s) (replicate 200 0) _ _ (copied-data (copy-of (write-of c))) (four s) (size s)
       (omega (arith, most s)) refl (ap (λ (o : Outcome Held). o .memory) (wrote (write-of c)))
       ∙ together
 
@@ -141,26 +142,29 @@ returns c =
     absurd (⊎-elim (λ e. omega arith) (λ e. omega arith) (rw (answer w) at (c .before .match .keys2)))
 
 add-data : tie.Need-add-data
-add-data c = omega (arith, counted c, most (of-known c))
+add-data c = omega (arith, counted (c .before), most (of-known (c .before)))
 
 array-share-prefix-data : tie.Need-array-share-prefix-data
-array-share-prefix-data c = fits c
+array-share-prefix-data c = fits (c .before)
 
 slice-aggregate-reply : tie.Need-slice-aggregate-reply
-slice-aggregate-reply c = sym (length-take-le _ _ (fits (c .before)))
+slice-aggregate-reply c = sym (length-take-le _ _ (fits (c .before .before)))
 
 reply-requires : tie.Need-reply-requires
 reply-requires c κs =
-    let k = c .before .before in
+    let k = c .before .before .before in
     (omega (arith, length-take-le (4 + k .before .n .given .0 .0) (whole k) (fits k), counted k, most (of-known k)), of-known k .pre .0 .1)
 
 returns-2 : tie.Need-returns-2
+unfolding delivered
 returns-2 c =
     let r = c .before .before in
-    let k = r .before .before .before in
+    let u = r .before .before .before in
+    let k = u .before in
     let s = of-known k in
     r .reply .ensures
-    ∙ ap (λ (l : List ℕ). delivered (replies (s .args .control) l (s .args .meter)) (s .args .meter) (s .args .out .now)) (front k)
+    ∙ ap (λ (m : Meter). delivered (replies (s .args .control) (take (4 + k .before .n .given .0 .0) (whole k)) m) (s .args .meter) (s .args .out .now)) (u .untouched .ensures)
+    ∙ ap (λ (l : List ℕ). delivered (replies (s .args .control) l (untouched (s .args .meter))) (s .args .meter) (s .args .out .now)) (front k)
 
 pub reply-value-spec : {M : Type 1} → statement M
 reply-value-spec =
@@ -175,6 +179,7 @@ reply-value-spec =
     (λ c. search needs)
     (λ c κs. search needs)
     returns
+    (λ c κs. search needs)
     add-data
     array-share-prefix-data
     slice-aggregate-reply

@@ -7,7 +7,8 @@ use borrow.Author.Tests.{not-true, not-false}
 use lib.Seq.{length-take-le}
 use Rattle.frame.specs.Frame.{addressOf, controlOf, lengthOf, dataOf}
 use Rattle.frame_parts.specs.PartsLaws.{one-spans, address-field, data-fits, data-front}
-use Rattle.item_command.specs.Command.{commandOf, addressed}
+use Rattle.item_command.specs.Command.{commandOf}
+use Rattle.item_command.specs.Addressee.{addressed}
 use Rattle.item_command.specs.declared.Asked.the-variants.{Known}
 use Rattle.meter.specs.Answer.{treated, delivered}
 use borrow.Author.Needs.{needs}
@@ -61,8 +62,8 @@ shared-slice-read-length c = omega (arith, one-spans _ (entry (c .before) .pre .
 cast-length : tie.Need-cast-length
 cast-length c = omega (arith, c .shared-slice-known3 .given 9)
 
-array-share-prefix-meant : tie.Need-array-share-prefix-meant
-array-share-prefix-meant c = fits (c .before)
+array-share-prefix-payload : tie.Need-array-share-prefix-payload
+array-share-prefix-payload c = fits (c .before)
 
 slice-aggregate-carry-out : tie.Need-slice-aggregate-carry-out
 slice-aggregate-carry-out c = sym (length-take-le _ _ (fits (c .before .before)))
@@ -92,7 +93,7 @@ treat-spec =
     (λ c κs. search needs)
     shared-slice-read-length
     cast-length
-    array-share-prefix-meant
+    array-share-prefix-payload
     slice-aggregate-carry-out
     (λ c κs. search needs)
     (λ c. search needs)

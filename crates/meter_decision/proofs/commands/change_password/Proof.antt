@@ -12,7 +12,7 @@ use Rattle.item_command.specs.declared.Command.the-variants.{ChangePassword}
 use Rattle.item_decimal.specs.Decimal.{allDecimal}
 use Rattle.item_identifier.specs.Identifier.{identifierOf}
 use Rattle.meter_decision.specs.Request.{levelOf, passwordOf, newLevelOf, newPasswordOf}
-use Rattle.meter_decision.specs.Decision.{mayChange, namesPassword, checksOf, decided}
+use Rattle.meter_decision.specs.Decision.{authorised, namesPassword, checksOf, decided}
 use Rattle.meter_decision.specs.Checks.{checkOf}
 use Rattle.meter_decision.specs.ChecksLaws.{check-true, check-false, Passed, password-parsed, password-wrong, named-level}
 use Rattle.meter_decision.specs.declared.Decision.the-variants.{NewPassword}
@@ -34,28 +34,28 @@ abbrev key-of : tie.After-enum-told6 → tie.After-enum-told4
 key-of c = c .before .before .before .before
 
 -- the data
-abbrev meant : tie.After-known-told → List ℕ
-meant c = start-of c .args .meant .now
+abbrev payload : tie.After-known-told → List ℕ
+payload c = start-of c .args .payload .now
 
 -- the first `k` checks hold
 abbrev Held : tie.After-known-told → ℕ → Type 0
-Held c k = Passed ChangePassword (meant c) (start-of c .args .key) (start-of c .args .passwords) k
+Held c k = Passed ChangePassword (payload c) (start-of c .args .key) (start-of c .args .passwords) k
 
 -- what was parsed
 parsed : (c : tie.After-known-told) →
     let fields = c .before .identifier .given .0 in
-    (eqb (length (meant c)) 12 ≡ true) × (identifierOf (meant c) ≡ fields .0) × (levelOf (meant c) ≡ fields .1 .0) × (newLevelOf (meant c) ≡ fields .1 .1 .0)
+    (eqb (length (payload c)) 12 ≡ true) × (identifierOf (payload c) ≡ fields .0) × (levelOf (payload c) ≡ fields .1 .0) × (newLevelOf (payload c) ≡ fields .1 .1 .0)
 parsed c = password-parsed _ (sym (c .before .before .before .password-request .ensures) ∙ c .before .identifier .given .1)
 
 right-length : (c : tie.After-known-told) → Held c 1
 unfolding decided checksOf
 right-length c = check-holds all-left (parsed c .0)
 
-twelve : (c : tie.After-known-told) → length (meant c) ≡ 12
+twelve : (c : tie.After-known-told) → length (payload c) ≡ 12
 twelve c = eqb-true _ _ (parsed c .0)
 
 -- the identifier and the new level
-name-test : (c : tie.After-names-password) → c .names-password .result ≡ checkOf (namesPassword (identifierOf (meant (c .before))) (newLevelOf (meant (c .before))))
+name-test : (c : tie.After-names-password) → c .names-password .result ≡ checkOf (namesPassword (identifierOf (payload (c .before))) (newLevelOf (payload (c .before))))
 name-test c = rw (parsed (c .before) .1, parsed (c .before) .3) (c .names-password .ensures)
 
 is-named : (c : tie.After-enum-told2) → Held (parse-of c) 2
@@ -71,20 +71,20 @@ unfolding checksOf
 key-is-on c = check-holds (is-named (name-of c)) (check-true _ (sym (c .before .before .check-of .ensures) ∙ c .enum-told4 .given .1))
 
 -- the old level and its password
-change-test : (c : tie.After-may-change) →
+change-test : (c : tie.After-authority) →
     let p = parse-of (name-of (c .before .before)) in
-    c .may-change .result ≡ checkOf (mayChange (levelOf (meant p)) (passwordOf (meant p)) (newLevelOf (meant p)) (start-of p .args .passwords))
+    c .authority .result ≡ checkOf (authorised (newLevelOf (payload p)) (levelOf (payload p)) (passwordOf (payload p)) (start-of p .args .passwords))
 unfolding passwordOf
 change-test c =
     let p = parse-of (name-of (c .before .before)) in
-    rw (parsed p .2, parsed p .3) (c .may-change .ensures)
+    rw (parsed p .2, parsed p .3) (c .authority .ensures)
 
 may-be-changed : (c : tie.After-enum-told6) → Held (parse-of (name-of (key-of c))) 4
 unfolding checksOf
 may-be-changed c = check-holds (key-is-on (key-of c)) (check-true _ (sym (change-test (c .before .before)) ∙ c .enum-told6 .given .1))
 
 -- the new password
-decimal-test : (c : tie.After-check-of2) → c .check-of2 .result ≡ checkOf (allDecimal (newPasswordOf (meant (parse-of (name-of (key-of (c .before .before .before)))))))
+decimal-test : (c : tie.After-check-of2) → c .check-of2 .result ≡ checkOf (allDecimal (newPasswordOf (payload (parse-of (name-of (key-of (c .before .before .before)))))))
 unfolding newPasswordOf
 decimal-test c = c .check-of2 .ensures ∙ ap checkOf (c .before .all-decimal .ensures)
 
@@ -104,11 +104,11 @@ returns-3 c =
     let tested = c .before .before in
     check-fails (is-named (tested .before)) (check-false _ (sym (tested .check-of .ensures) ∙ c .enum-told5 .given .1))
 
-part-may-change-end : tie.Need-part-may-change-end
-part-may-change-end c = omega (arith, twelve (parse-of (name-of c)))
+part-authority-end : tie.Need-part-authority-end
+part-authority-end c = omega (arith, twelve (parse-of (name-of c)))
 
-may-change-requires : tie.Need-may-change-requires
-may-change-requires c κs = level (name-of (c .before))
+authority-requires : tie.Need-authority-requires
+authority-requires c κs = level (name-of (c .before))
 
 returns-4 : tie.Need-returns-4
 unfolding checksOf
@@ -151,8 +151,8 @@ change-password-spec =
     returns-3
     (λ c. search needs)
     (λ c. search needs)
-    part-may-change-end
-    may-change-requires
+    part-authority-end
+    authority-requires
     (λ c. search needs)
     (λ c. search needs)
     returns-4

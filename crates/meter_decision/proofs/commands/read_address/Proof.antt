@@ -1,7 +1,6 @@
 -- The one check is that of the length.
 use Prim.Native.Nat.{_-_}
 use mathlib.Core.Path.{sym, _∙_}
-use lib.ListN.{length}
 use Rattle.laws.specs.ChecksLaws.{all-left, check-holds, check-fails, no-check-left}
 use Rattle.meter_decision.specs.Decision.{checksOf, decided}
 use Rattle.meter_decision.specs.ChecksLaws.{check-true, check-false}

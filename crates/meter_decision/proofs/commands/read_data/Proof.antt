@@ -18,19 +18,19 @@ use Rattle.meter_decision.proofs.commands.read_data.Statement.{statemen
 use Rattle.meter_decision.proofs.commands.read_data.Tie as tie
 
 -- the data
-abbrev meant : tie.After-known-told → List ℕ
-meant c = c .before .before .before .before .before .args .meant .now
+abbrev payload : tie.After-known-told → List ℕ
+payload c = c .before .before .before .before .before .args .payload .now
 
 -- what was parsed
-parsed : (c : tie.After-known-told) → (eqb (length (meant c)) 4 ≡ true) × (identifierOf (meant c) ≡ c .before .identifier .given .0 .0)
+parsed : (c : tie.After-known-told) → (eqb (length (payload c)) 4 ≡ true) × (identifierOf (payload c) ≡ c .before .identifier .given .0 .0)
 parsed c = read-parsed _ (sym (c .before .before .before .read-request .ensures) ∙ c .before .identifier .given .1)
 
-right-length : (c : tie.After-known-told) → Passed ReadData (meant c) false [] 1
+right-length : (c : tie.After-known-told) → Passed ReadData (payload c) false [] 1
 unfolding decided checksOf
 right-length c = check-holds all-left (parsed c .0)
 
 -- what was looked up
-asked : (c : tie.After-item-of) → itemAsked (meant (c .before)) ≡ c .item-of .result
+asked : (c : tie.After-item-of) → itemAsked (payload (c .before)) ≡ c .item-of .result
 unfolding itemAsked
 asked c = ap itemOf (parsed (c .before) .1) ∙ sym (c .item-of .ensures)
 

@@ -29,22 +29,22 @@ abbrev key-of : tie.After-address2 → tie.After-enum-told3
 key-of c = c .before .before .before
 
 -- the data
-abbrev meant : tie.After-enum-told → List ℕ
-meant c = start-of c .args .meant .now
+abbrev payload : tie.After-enum-told → List ℕ
+payload c = start-of c .args .payload .now
 
 -- the first `k` checks hold
 abbrev Held : tie.After-enum-told → ℕ → Type 0
-Held c k = Passed WriteAddress (meant c) (start-of c .args .key) [] k
+Held c k = Passed WriteAddress (payload c) (start-of c .args .key) [] k
 
 -- the length
-has-six : (c : tie.After-enum-told) → eqb (length (meant c)) 6 ≡ true
+has-six : (c : tie.After-enum-told) → eqb (length (payload c)) 6 ≡ true
 has-six c = check-true _ (sym (c .before .before .check-of .ensures) ∙ c .enum-told .given .1)
 
 right-length : (c : tie.After-enum-told) → Held c 1
 unfolding decided checksOf
 right-length c = check-holds all-left (has-six c)
 
-six : (c : tie.After-enum-told) → length (meant c) ≡ 6
+six : (c : tie.After-enum-told) → length (payload c) ≡ 6
 six c = eqb-true _ _ (has-six c)
 
 -- the key
@@ -53,10 +53,10 @@ unfolding checksOf
 key-is-on c = check-holds (right-length (length-of c)) (check-true _ (sym (c .before .before .check-of2 .ensures) ∙ c .enum-told3 .given .1))
 
 -- the new address is the one in the data
-copied : (c : tie.After-address2) → c .before .copy .last .1 .0 ≡ meant (length-of (key-of c))
+copied : (c : tie.After-address2) → c .before .copy .last .1 .0 ≡ payload (length-of (key-of c))
 copied c = c .before .copy .ensures .1 ∙ copied-whole _ (replicate 6 0) (omega (arith, six (length-of (key-of c))))
 
-address-test : (c : tie.After-check-of3) → c .check-of3 .result ≡ checkOf (isGood (meant (length-of (key-of (c .before .before)))))
+address-test : (c : tie.After-check-of3) → c .check-of3 .result ≡ checkOf (isGood (payload (length-of (key-of (c .before .before)))))
 address-test c = c .check-of3 .ensures ∙ ap checkOf (c .before .is-good .ensures ∙ ap isGood (copied (c .before .before)))
 
 returns : tie.Need-returns

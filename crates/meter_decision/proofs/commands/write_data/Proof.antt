@@ -11,7 +11,8 @@ use mathlib.Core.Logic.{⊎-elim}
 use borrow.Rule.Slice.PartAt.{part-to-end}
 use types.Run.{OneOf}
 use denote.Enum.Declared.{tagOf}
-use Rattle.item.specs.Content.{within, isAllowed}
+use Rattle.item_range.specs.Range.{within}
+use Rattle.item.specs.Content.{isAllowed}
 use Rattle.item.specs.Table.{itemOf, hasLength}
 use Rattle.item.specs.declared.content.Content.{Content}
 use Rattle.item.specs.declared.content.Content.the-variants.{Allowed, NotDecimal, OutOfRange}
@@ -48,16 +49,16 @@ abbrev authority-of : tie.After-enum-told9 → tie.After-enum-told7
 authority-of c = c .before .before .before .before .before
 
 -- the data
-abbrev meant : tie.After-known-told → List ℕ
-meant c = start-of c .args .meant .now
+abbrev payload : tie.After-known-told → List ℕ
+payload c = start-of c .args .payload .now
 
 -- the first `k` checks hold
 abbrev Held : tie.After-known-told → ℕ → Type 0
-Held c k = Passed WriteData (meant c) (start-of c .args .key) (start-of c .args .passwords) k
+Held c k = Passed WriteData (payload c) (start-of c .args .key) (start-of c .args .passwords) k
 
 -- what was parsed
-parsed : (c : tie.After-known-told) → (within 12 50 (length (meant c)) ≡ true) × (12 ≤ length (meant c))
-    × (identifierOf (meant c) ≡ c .before .identifier .given .0 .0) × (levelOf (meant c) ≡ c .before .identifier .given .0 .1 .0)
+parsed : (c : tie.After-known-told) → (within 12 50 (length (payload c)) ≡ true) × (12 ≤ length (payload c))
+    × (identifierOf (payload c) ≡ c .before .identifier .given .0 .0) × (levelOf (payload c) ≡ c .before .identifier .given .0 .1 .0)
 parsed c = write-parsed _ (sym (c .before .before .before .write-request .ensures) ∙ c .before .identifier .given .1)
 
 right-length : (c : tie.After-known-told) → Held c 1
@@ -65,14 +66,14 @@ unfolding decided checksOf
 right-length c = check-holds all-left (parsed c .0)
 
 -- what was looked up
-asked : (c : tie.After-item-of) → itemAsked (meant (c .before)) ≡ c .item-of .result
+asked : (c : tie.After-item-of) → itemAsked (payload (c .before)) ≡ c .item-of .result
 unfolding itemAsked
 asked c = ap itemOf (parsed (c .before) .2) ∙ sym (c .item-of .ensures)
 
 abbrev item : tie.After-known-told2 → Item
 item c = c .before .item .given .0 .0
 
-listed : (c : tie.After-known-told2) → itemAsked (meant (parse-of c)) ≡ Listed (item c)
+listed : (c : tie.After-known-told2) → itemAsked (payload (parse-of c)) ≡ Listed (item c)
 listed c = asked (c .before .before .before) ∙ c .before .item .given .1
 
 is-listed : (c : tie.After-known-told2) → Held (parse-of c) 2
@@ -80,7 +81,7 @@ unfolding checksOf
 is-listed c = check-holds (right-length (parse-of c)) (ap isListed (listed c))
 
 -- whether it may be written
-writable-test : (c : tie.After-check-of) → c .check-of .result ≡ checkOf (isWritable (itemAsked (meant (parse-of (c .before)))))
+writable-test : (c : tie.After-check-of) → c .check-of .result ≡ checkOf (isWritable (itemAsked (payload (parse-of (c .before)))))
 writable-test c = rw (listed (c .before)) (c .check-of .ensures)
 
 is-writable : (c : tie.After-enum-told3) → Held (parse-of (item-of c)) 3
@@ -95,7 +96,7 @@ key-is-on c = check-holds (is-writable (writable-of c)) (check-true _ (sym (c .b
 -- the level and its password
 authority-test : (c : tie.After-authority) →
     let p = parse-of (item-of (writable-of (c .before .before))) in
-    c .authority .result ≡ checkOf (authorised (levelOf (meant p)) (passwordOf (meant p)) (start-of p .args .passwords))
+    c .authority .result ≡ checkOf (authorised 4 (levelOf (payload p)) (passwordOf (payload p)) (start-of p .args .passwords))
 unfolding passwordOf
 authority-test c = rw (parsed (parse-of (item-of (writable-of (c .before .before)))) .3) (c .authority .ensures)
 
@@ -106,11 +107,11 @@ has-authority c = check-holds (key-is-on (key-of c)) (check-true _ (sym (authori
 -- the value's length
 length-test : (c : tie.After-check-of3) →
     let p = parse-of (item-of (writable-of (key-of (c .before .before .before)))) in
-    c .check-of3 .result ≡ checkOf (hasLength (itemAsked (meant p)) (length (writtenValue (meant p))))
+    c .check-of3 .result ≡ checkOf (hasLength (itemAsked (payload p)) (length (writtenValue (payload p))))
 unfolding writtenValue
 length-test c =
     let i = item-of (writable-of (key-of (c .before .before .before))) in
-    rw (listed i, ← part-to-end (meant (parse-of i)) 12) (c .check-of3 .ensures)
+    rw (listed i, ← part-to-end (payload (parse-of i)) 12) (c .check-of3 .ensures)
 
 value-length : (c : tie.After-enum-told9) → Held (parse-of (item-of (writable-of (key-of (authority-of c))))) 6
 unfolding checksOf
@@ -119,11 +120,11 @@ value-length c = check-holds (has-authority (authority-of c)) (check-true _ (sym
 -- the value's content
 content-test : (c : tie.After-content-of) →
     let p = parse-of (item-of (writable-of (key-of (authority-of (c .before))))) in
-    hasContent (itemAsked (meant p)) (writtenValue (meant p)) ≡ isAllowed (c .content-of .result)
+    hasContent (itemAsked (payload p)) (writtenValue (payload p)) ≡ isAllowed (c .content-of .result)
 unfolding writtenValue
 content-test c =
     let i = item-of (writable-of (key-of (authority-of (c .before)))) in
-    rw (listed i, ← part-to-end (meant (parse-of i)) 12) (ap isAllowed (sym (c .content-of .ensures)))
+    rw (listed i, ← part-to-end (payload (parse-of i)) 12) (ap isAllowed (sym (c .content-of .ensures)))
 
 not-allowed : (content : Content) → OneOf (1 ∷ 2 ∷ []) (tagOf the-type content) → isAllowed content ≡ false
 not-allowed Allowed h = absurd (⊎-elim (λ e. omega arith) (λ e. omega arith) h)

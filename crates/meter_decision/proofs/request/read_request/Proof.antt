@@ -1,7 +1,6 @@
 -- The length was tested as in `readRequest`.
 use Prim.Native.Nat.{_-_}
 use borrow.Author.Needs.{needs}
-use lib.ListN.{length}
 use borrow.Author.Tests.{eq-eqb, ne-eqb}
 use Rattle.meter_decision.specs.Checks.{readRequest}
 use Rattle.meter_decision.proofs.request.read_request.Statement.{statement}

@@ -1,28 +1,35 @@
 -- The length was tested as in `writeRequest`.
-use Prim.Native.Nat.{_-_}
+use mathlib.Core.Path.{_≡_, sym, _∙_}
+use mathlib.Core.Bool.{true}
+use native.Mathlib.Omega.{arith}
 use borrow.Author.Needs.{needs}
 use lib.ListN.{length}
-use borrow.Author.Tests.{le-leb, lt-leb}
-use Rattle.item.specs.Content.{within}
+use borrow.Author.Tests.{not-true, not-false}
+use Rattle.item_range.specs.Range.{within}
+use Rattle.item_range.specs.RangeLaws.{within-iff}
 use Rattle.meter_decision.specs.Request.{levelOf}
 use Rattle.meter_decision.specs.Checks.{writeRequest}
 use Rattle.meter_decision.proofs.request.write_request.Statement.{statement}
 use Rattle.meter_decision.proofs.request.write_request.Tie as tie
 
 returns : tie.Need-returns
-unfolding writeRequest within
-returns c = rw (lt-leb _ _ (c .if1 .taken))
+unfolding writeRequest
+returns c = rw (sym (c .before .is-within .ensures) ∙ not-true _ (c .if1 .taken))
+
+-- the length is right
+right : (c : tie.Else1) → within 12 50 (length (c .before .before .before .args .payload .now)) ≡ true
+right c = sym (c .before .is-within .ensures) ∙ not-false _ (c .if1 .left)
+
+identifier-at-requires : tie.Need-identifier-at-requires
+identifier-at-requires c κs = omega (arith, within-iff 12 50 _ .0 (right c))
+
+read-level : tie.Need-shared-slice-read-t7
+read-level c = omega (arith, within-iff 12 50 _ .0 (right (c .before .before)))
 
 returns-2 : tie.Need-returns-2
-unfolding writeRequest within
-returns-2 c = rw (le-leb _ _ (c .before .if1 .left), lt-leb _ _ (c .if2 .taken))
-
-returns-3 : tie.Need-returns-3
-unfolding writeRequest within levelOf
-returns-3 c =
-    let parsed = c .before in
-    rw (le-leb _ _ (parsed .before .before .if1 .left), le-leb _ _ (parsed .before .if2 .left), parsed .identifier-at .ensures)
+unfolding writeRequest levelOf
+returns-2 c = rw (right (c .before .before), c .before .identifier-at .ensures)
 
 pub write-request-spec : {M : Type 1} → statement M
 write-request-spec =
-    tie.close (tie.spec returns returns-2 (λ c κs. search needs) (λ c. search needs) returns-3)
+    tie.close (tie.spec (λ c κs. search needs) returns identifier-at-requires read-level returns-2)

@@ -7,11 +7,11 @@ use borrow.Author.Needs.{needs}
 use lib.ListN.{length, take, drop, length-take, length-drop}
 use Rattle.energy.specs.Reading.{readingBytes}
 use Rattle.energy.specs.Energies.{readingAt}
-use Rattle.meter_holding.specs.Columns.{columnBytes}
-use Rattle.energy.specs.EnergiesLaws.{reading-length}
+use Rattle.energy.specs.Columns.{columnBytes}
+use Rattle.energy.specs.ReadingLaws.{reading-length}
 use Rattle.laws.specs.Memory.{over}
 use Rattle.laws.specs.MemoryLaws.{copied}
-use Rattle.meter_holding.specs.ColumnsLaws.{column-length, column-joined}
+use Rattle.energy.specs.ColumnsLaws.{column-length, column-joined}
 use Rattle.laws.specs.JoinLaws.{Joining, joining-start, joining-length, joining-room, joining-next, joining-end}
 use Rattle.meter_holding.proofs.columns.write_column.Statement.{statement}
 use Rattle.meter_holding.proofs.columns.write_column.Tie as tie

@@ -4,8 +4,8 @@ use mathlib.Core.Path.{_≡_, ap}
 use native.Mathlib.Omega.{arith}
 use borrow.Author.Needs.{needs}
 use lib.ListN.{length, length-take, length-drop}
-use Rattle.meter_holding.specs.Columns.{columnBytes, columnsBytes}
-use Rattle.meter_holding.specs.ColumnsLaws.{column-length, columns-length, columns-joined}
+use Rattle.energy.specs.Columns.{columnBytes, columnsBytes}
+use Rattle.energy.specs.ColumnsLaws.{column-length, columns-length, columns-joined}
 use Rattle.laws.specs.JoinLaws.{Joining, joining-start, joining-length, joining-room, joining-next, joining-end}
 use Rattle.meter_holding.proofs.columns.write_columns.Statement.{statement}
 use Rattle.meter_holding.proofs.columns.write_columns.Tie as tie

@@ -6,15 +6,16 @@ use native.Mathlib.Omega.{arith}
 use borrow.Author.Needs.{needs}
 use borrow.Author.Tests.{le-leb, lt-leb}
 use lib.ListN.{length}
+use Rattle.item_command.specs.Command.{controlFor}
 use Rattle.reader_allowed.specs.Allowed.{isAdmitted}
-use Rattle.reader.specs.Allowed.{Sized, isAllowed}
+use Rattle.reader.specs.Allowed.{RequestSized, isAllowed}
 use Rattle.reader.specs.Building.{sentData, built}
 use Rattle.reader.specs.BuildingLaws.{allowed-counts, request-length, payload-count, built-written}
 use Rattle.reader.proofs.Request.build.Statement.{statement}
 use Rattle.reader.proofs.Request.build.Tie as tie
 
 -- the array fields' lengths
-sized : (s : tie.Start) → Sized (s .args .self)
+sized : (s : tie.Start) → RequestSized (s .args .self)
 sized s = search needs
 
 abbrev start-of : tie.After-enum-told → tie.Start
@@ -30,7 +31,7 @@ few : (c : tie.After-enum-told) → let r = start-of c .args .self in length (se
 few c = request-length (start-of c .args .self) (sized (start-of c)) (allowed c)
 
 abbrev told-of : tie.After-payload-of → tie.After-enum-told
-told-of c = c .before .before .before .before
+told-of c = c .before .before .before .before .before
 
 returns : tie.Need-returns
 unfolding built
@@ -43,7 +44,7 @@ returns-2 c =
     rw (le-leb _ _ (at-admit .before .if1 .left), ap isAdmitted (sym (at-admit .admission-of .ensures) ∙ c .enum-told2 .given .1))
 
 payload-of-requires : tie.Need-payload-of-requires
-payload-of-requires c κs = allowed-counts _ (allowed (c .before .before .before))
+payload-of-requires c κs = allowed-counts _ (allowed (c .before .before .before .before))
 
 write-request-requires : tie.Need-write-request-requires
 write-request-requires c κs =
@@ -58,7 +59,7 @@ returns-3 c =
     let t = told-of p in
     let s = start-of t in
     built-written (s .args .self) (s .args .out .now) (sized s .address) (t .before .before .before .if1 .left) (allowed t)
-    (p .before .before .sent-to .ensures) (p .before .control-of .ensures) (p .payload-of .ensures) (w .write-request .ensures)
+    (p .before .before .before .sent-to .ensures) (p .before .control-of .ensures ∙ ap controlFor (p .before .before .command-for .ensures)) (p .payload-of .ensures) (w .write-request .ensures)
 
 pub build-spec : {M : Type 1} → statement M
 build-spec =
@@ -69,6 +70,7 @@ build-spec =
     (λ c. search needs)
     (λ c. search needs)
     returns-2
+    (λ c κs. search needs)
     (λ c κs. search needs)
     (λ c κs. search needs)
     payload-of-requires

@@ -1,7 +1,7 @@
--- The tests are the first checks, in their order; where they hold the verdict on the reply's parts is the judgement, and its value has room.
+-- The tests are the checks of the call and of the frame, in their order; where they hold the reply is judged by its parts, and its value has room.
 use Prim.Native.Nat.{ℕ, _≤_}
-use mathlib.Core.Path.{_≡_, ap, sym, _∙_}
-use mathlib.Core.List.{List}
+use mathlib.Core.Path.{_≡_, sym, _∙_}
+use mathlib.Core.List.{List, _++_}
 use mathlib.Core.Bool.{true}
 use native.Mathlib.Omega.{arith}
 use borrow.Author.Needs.{needs}
@@ -12,13 +12,11 @@ use Rattle.laws.specs.ChecksLaws.{Held, all-left, check-holds, check-fails, no-
 use Rattle.frame.specs.Frame.{addressOf, controlOf, lengthOf, dataOf}
 use Rattle.frame.specs.Recognition.{exactlyOne}
 use Rattle.frame_parts.specs.PartsLaws.{one-spans, one-most, data-length, address-field, data-fits, data-front}
-use Rattle.reader_judgement.specs.Judging.{replyValue, verdict}
+use Rattle.reader_judgement.specs.Judging.{replyValue, dataJudgement}
 use Rattle.reader_judgement.specs.declared.Judgement.{Judgement}
 use Rattle.reader_judgement.specs.declared.Judgement.the-variants.{Refused}
-use Rattle.reader_allowed.specs.Allowed.{isAdmitted}
-use Rattle.reader.specs.Allowed.{isAllowed}
-use Rattle.reader.specs.Judging.{isAnswer, firstChecks, judgementOf}
-use Rattle.reader.specs.JudgingLaws.{verdict-fits, judged-by}
+use Rattle.reader.specs.Judging.{valueMemory, isAnswer, callChecks, frameChecks, judgementOf}
+use Rattle.reader.specs.JudgingLaws.{data-judgement-fits, judged-by}
 use Rattle.reader.specs.declared.Request.{Request}
 use Rattle.reader.proofs.Request.judge.Statement.{statement}
 use Rattle.reader.proofs.Request.judge.Tie as tie
@@ -33,52 +31,52 @@ bytes s = s .args .bytes .now
 abbrev memory : tie.Start → List ℕ
 memory s = s .args .out .now
 
--- the verdict on the parts of the reply
+-- the judgement of the parts of the reply
 abbrev decision : tie.Start → Judgement
-decision s = verdict (request s .action) (request s .identifier) (controlOf (bytes s)) (addressOf (bytes s)) (dataOf (bytes s))
+decision s = dataJudgement (request s .action) (request s .identifier) (controlOf (bytes s)) (addressOf (bytes s)) (dataOf (bytes s))
 
 -- the first `k` checks hold
 abbrev Passed : tie.Start → ℕ → Type 0
-Passed s k = Held Refused (firstChecks (request s) (bytes s) (memory s)) (decision s) k
+Passed s k = Held Refused (callChecks (request s) (memory s) ++ frameChecks (request s) (bytes s)) (decision s) k
 
 -- the places where one step more is done, back to the start
 abbrev start-of : tie.Else1 → tie.Start
 start-of c = c .before .before .before
 
-abbrev room-of : tie.After-enum-told → tie.Else1
-room-of c = c .before .before .before
+abbrev room-of : tie.Else2 → tie.Else1
+room-of c = c .before .before
 
-abbrev allowed-of : tie.Else2 → tie.After-enum-told
+abbrev allowed-of : tie.Else3 → tie.Else2
 allowed-of c = c .before .before
 
-abbrev frame-of : tie.After-is-answer → tie.Else2
+abbrev frame-of : tie.After-is-answer → tie.Else3
 frame-of c = c .before .before .before .before
 
-abbrev parts-of : tie.After-data-of → tie.Else2
+abbrev parts-of : tie.After-data-of → tie.Else3
 parts-of c = frame-of (c .before .before)
 
 abbrev data-of : tie.After-judge-data → tie.After-data-of
 data-of c = c .before .before .before
 
-abbrev entry : tie.Else2 → tie.Start
+abbrev entry : tie.Else3 → tie.Start
 entry c = start-of (room-of (allowed-of c))
 
 -- enough memory
 room : (c : tie.Else1) → Passed (start-of c) 1
-unfolding firstChecks
-room c = check-holds all-left (le-leb 196 _ (c .if1 .left))
+unfolding callChecks
+room c = check-holds all-left (le-leb valueMemory _ (c .if1 .left))
 
--- an allowed request
-allowed : (c : tie.After-enum-told) → Passed (start-of (room-of c)) 2
-unfolding firstChecks isAllowed
-allowed c = check-holds (room (room-of c)) (ap isAdmitted (sym (c .before .before .admission-of .ensures) ∙ c .enum-told .given .1))
+-- a request whose reply is judged
+allowed : (c : tie.Else2) → Passed (start-of (room-of c)) 2
+unfolding callChecks
+allowed c = check-holds (room (room-of c)) (sym (c .before .is-judged .ensures) ∙ not-false _ (c .if2 .left))
 
 -- exactly one frame
-one : (c : tie.Else2) → exactlyOne (bytes (entry c)) ≡ true
-one c = sym (c .before .is-frame .ensures) ∙ not-false _ (c .if2 .left)
+one : (c : tie.Else3) → exactlyOne (bytes (entry c)) ≡ true
+one c = sym (c .before .is-frame .ensures) ∙ not-false _ (c .if3 .left)
 
-one-frame : (c : tie.Else2) → Passed (entry c) 3
-unfolding firstChecks
+one-frame : (c : tie.Else3) → Passed (entry c) 3
+unfolding callChecks frameChecks
 one-frame c = check-holds (allowed (allowed-of c)) (one c)
 
 -- an answer to the request
@@ -86,9 +84,9 @@ answer-test : (c : tie.After-is-answer) → isAnswer (request (entry (frame-of c
 unfolding isAnswer controlOf
 answer-test c = rw (sym (address-field _ (one (frame-of c))), ← c .before .address-of .ensures) (sym (c .is-answer .ensures))
 
-answers : (c : tie.Else3) → let s = entry (frame-of (c .before)) in decision s ≡ judgementOf (request s) (bytes s) (memory s)
-unfolding firstChecks judgementOf
-answers c = no-check-left (check-holds (one-frame (frame-of (c .before))) (answer-test (c .before) ∙ not-false _ (c .if3 .left)))
+answers : (c : tie.Else4) → let s = entry (frame-of (c .before)) in decision s ≡ judgementOf (request s) (bytes s) (memory s)
+unfolding callChecks frameChecks judgementOf
+answers c = no-check-left (check-holds (one-frame (frame-of (c .before))) (answer-test (c .before) ∙ not-false _ (c .if4 .left)))
 
 -- the data fit the array, and are its front
 fits : (c : tie.After-data-of) → getD (bytes (entry (parts-of c))) 9 0 ≤ length (c .data-of .result)
@@ -99,7 +97,7 @@ front : (c : tie.After-data-of) → take (getD (bytes (entry (parts-of c))) 9 0)
 unfolding lengthOf
 front c = rw (c .data-of .ensures) (data-front _ (one (parts-of c)))
 
--- the verdict is made of the frame's own parts
+-- the judgement is that of the frame's own parts
 decided : (c : tie.After-judge-data) → c .judge-data .result ≡ decision (entry (parts-of (data-of c)))
 unfolding controlOf
 decided c =
@@ -107,43 +105,20 @@ decided c =
     rw (← front d, sym (address-field _ (one (parts-of d))), ← d .before .before .before .address-of .ensures) (c .judge-data .ensures)
 
 returns : tie.Need-returns
-unfolding firstChecks judgementOf
-returns c = judged-by _ _ _ (check-fails all-left (lt-leb 196 _ (c .if1 .taken)))
+unfolding callChecks judgementOf
+returns c = judged-by _ _ _ (check-fails all-left (lt-leb valueMemory _ (c .if1 .taken)))
 
 returns-2 : tie.Need-returns-2
-unfolding firstChecks judgementOf isAllowed
-returns-2 c =
-    let a = c .before .before in
-    judged-by _ _ _ (check-fails (room (a .before)) (ap isAdmitted (sym (a .admission-of .ensures) ∙ c .enum-told2 .given .1)))
+unfolding callChecks judgementOf
+returns-2 c = judged-by _ _ _ (check-fails (room (c .before .before)) (sym (c .before .is-judged .ensures) ∙ not-true _ (c .if2 .taken)))
 
 returns-3 : tie.Need-returns-3
-unfolding firstChecks judgementOf
-returns-3 c = judged-by _ _ _ (check-fails (allowed (c .before .before)) (sym (c .before .is-frame .ensures) ∙ not-true _ (c .if2 .taken)))
-
-shared-slice-read-control : tie.Need-shared-slice-read-control
-shared-slice-read-control c = omega (arith, one-spans _ (one (c .before .before)))
+unfolding callChecks frameChecks judgementOf
+returns-3 c = judged-by _ _ _ (check-fails (allowed (c .before .before)) (sym (c .before .is-frame .ensures) ∙ not-true _ (c .if3 .taken)))
 
 returns-4 : tie.Need-returns-4
-unfolding firstChecks judgementOf
-returns-4 c = judged-by _ _ _ (check-fails (one-frame (frame-of (c .before))) (answer-test (c .before) ∙ not-true _ (c .if3 .taken)))
-
-shared-slice-read-length : tie.Need-shared-slice-read-length
-shared-slice-read-length c = omega (arith, one-spans _ (one (parts-of (c .before))))
-
-cast-length : tie.Need-cast-length
-cast-length c = omega (arith, c .shared-slice-known3 .given 9)
-
-array-share-prefix-meant : tie.Need-array-share-prefix-meant
-array-share-prefix-meant c = fits (c .before)
-
-slice-aggregate-judge-data : tie.Need-slice-aggregate-judge-data
-slice-aggregate-judge-data c = sym (length-take-le _ _ (fits (c .before .before)))
-
-array-share-prefix-meant-2 : tie.Need-array-share-prefix-meant-2
-array-share-prefix-meant-2 c = fits (data-of (c .before))
-
-slice-aggregate-deliver : tie.Need-slice-aggregate-deliver
-slice-aggregate-deliver c = sym (length-take-le _ _ (fits (data-of (c .before .before))))
+unfolding callChecks frameChecks judgementOf
+returns-4 c = judged-by _ _ _ (check-fails (one-frame (frame-of (c .before))) (answer-test (c .before) ∙ not-true _ (c .if4 .taken)))
 
 deliver-requires : tie.Need-deliver-requires
 deliver-requires c κs =
@@ -151,7 +126,7 @@ deliver-requires c κs =
     let d = data-of j in
     let o = one (parts-of d) in
     rw (decided j, c .before .before .value-start .ensures, front d)
-    (verdict-fits _ _ _ _ (omega (arith, one-most _ o, data-length _ o)) (room-of (allowed-of (parts-of d)) .if1 .left) _ _)
+    (data-judgement-fits _ _ _ _ (omega (arith, one-most _ o, data-length _ o)) (room-of (allowed-of (parts-of d)) .if1 .left) _ _)
 
 returns-5 : tie.Need-returns-5
 unfolding replyValue
@@ -167,24 +142,22 @@ judge-spec =
     (tie.spec
     returns
     (λ c κs. search needs)
-    (λ c. search needs)
-    (λ c. search needs)
     returns-2
     (λ c κs. search needs)
     returns-3
-    shared-slice-read-control
+    (λ c. omega (arith, one-spans _ (one (c .before .before))))
     (λ c κs. search needs)
     (λ c κs. search needs)
     returns-4
     (λ c κs. search needs)
-    shared-slice-read-length
-    cast-length
-    array-share-prefix-meant
-    slice-aggregate-judge-data
+    (λ c. omega (arith, one-spans _ (one (parts-of (c .before)))))
+    (λ c. omega (arith, c .shared-slice-known3 .given 9))
+    (λ c. fits (c .before))
+    (λ c. sym (length-take-le _ _ (fits (c .before .before))))
     (λ c κs. search needs)
     (λ c κs. search needs)
-    array-share-prefix-meant-2
-    slice-aggregate-deliver
+    (λ c. fits (data-of (c .before)))
+    (λ c. sym (length-take-le _ _ (fits (data-of (c .before .before)))))
     deliver-requires
     (λ c. search needs)
     returns-5)

@@ -21,81 +21,57 @@ use Rattle.reader.proofs.build.write_request.Tie as tie
 six : (s : tie.Start) → length (s .args .address) ≡ 6
 six s = search needs
 
-whole : (s : tie.Start) → length (s .args .payload .meant) ≡ 50
+whole : (s : tie.Start) → length (s .args .payload .bytes) ≡ 50
 whole s = search needs
 
 -- the data
-abbrev meant : tie.Start → List ℕ
-meant s = take (s .args .payload .count) (s .args .payload .meant)
+abbrev bytes : tie.Start → List ℕ
+bytes s = take (s .args .payload .count) (s .args .payload .bytes)
 
-fits : (s : tie.Start) → s .args .payload .count ≤ length (s .args .payload .meant)
+fits : (s : tie.Start) → s .args .payload .count ≤ length (s .args .payload .bytes)
 fits s = omega (arith, whole s, s .pre .0)
 
-size : (s : tie.Start) → length (meant s) ≡ s .args .payload .count
+size : (s : tie.Start) → length (bytes s) ≡ s .args .payload .count
 size s = length-take-le _ _ (fits s)
 
-few : (s : tie.Start) → length (meant s) ≤ 50
+few : (s : tie.Start) → length (bytes s) ≤ 50
 few s = omega (arith, size s, s .pre .0)
 
 -- the memory behind the four stores
-abbrev woken : tie.Start → List ℕ
-woken s = set (set (set (set (s .args .out .now) 0 0xFE) 1 0xFE) 2 0xFE) 3 0xFE
+abbrev with-wake-up : tie.Start → List ℕ
+with-wake-up s = set (set (set (set (s .args .out .now) 0 0xFE) 1 0xFE) 2 0xFE) 3 0xFE
 
-awake : (s : tie.Start) → woken s ≡ over wakeUp (s .args .out .now)
-awake s = run-from wakeUp (s .args .out .now) 0 (omega (arith, s .pre .1))
+wake-up-over : (s : tie.Start) → with-wake-up s ≡ over wakeUp (s .args .out .now)
+wake-up-over s = run-from wakeUp (s .args .out .now) 0 (omega (arith, s .pre .1))
 
 abbrev start-of : tie.After-write-frame → tie.Start
 start-of c = c .before .before .before .before .before
 
 -- the frame is written
-answered : (c : tie.After-write-frame) → c .write-frame .result ≡ Length (12 + length (meant (start-of c)))
+answered : (c : tie.After-write-frame) → c .write-frame .result ≡ Length (12 + length (bytes (start-of c)))
 answered c =
     let s = start-of c in
-    written-length (s .args .address) (s .args .control) (meant s) (s .args .out .now) (six s) (few s) (s .pre .1) (woken s) (awake s) _ _
+    written-length (s .args .address) (s .args .control) (bytes s) (s .args .out .now) (six s) (few s) (s .pre .1) (with-wake-up s) (wake-up-over s) _ _
     (c .write-frame .ensures)
 
 -- and stands behind the four FE
 abbrev left : tie.After-write-frame → List ℕ
-left c = let o = woken (start-of c) in take 4 o ++ (c .write-frame .last .1 .1 .1 .0 ++ drop (length o - 4) (drop 4 o))
+left c = let o = with-wake-up (start-of c) in take 4 o ++ (c .write-frame .last .1 .1 .1 .0 ++ drop (length o - 4) (drop 4 o))
 
 stands : (c : tie.After-write-frame) →
     let a = start-of c .args in
-    left c ≡ over (wakeUp ++ frameFor (a .address) (a .control) (meant (start-of c))) (a .out .now)
+    left c ≡ over (wakeUp ++ frameFor (a .address) (a .control) (bytes (start-of c))) (a .out .now)
 stands c =
     let s = start-of c in
-    written-over (s .args .address) (s .args .control) (meant s) (s .args .out .now) (six s) (few s) (s .pre .1) (woken s) (awake s) _ _
+    written-over (s .args .address) (s .args .control) (bytes s) (s .args .out .now) (six s) (few s) (s .pre .1) (with-wake-up s) (wake-up-over s) _ _
     (c .write-frame .ensures)
 
 kept : (c : tie.After-write-frame) → length (left c) ≡ length (start-of c .args .out .now)
 kept c =
     let s = start-of c in
-    let framed = frame-for-length (s .args .address) (s .args .control) (meant s) (six s) in
+    let framed = frame-for-length (s .args .address) (s .args .control) (bytes s) (six s) in
     ap length (stands c)
-    ∙ over-length (wakeUp ++ frameFor (s .args .address) (s .args .control) (meant s)) (s .args .out .now) (omega (arith, framed, few s, s .pre .1))
-
-slice-write-out-2 : tie.Need-slice-write-out-2
-slice-write-out-2 c = simp length-set (omega arith)
-
-slice-write-out-3 : tie.Need-slice-write-out-3
-slice-write-out-3 c = simp length-set (omega arith)
-
-slice-write-out-4 : tie.Need-slice-write-out-4
-slice-write-out-4 c = simp length-set (omega arith)
-
-array-share-prefix-meant : tie.Need-array-share-prefix-meant
-array-share-prefix-meant c = fits (c .before .before)
-
-slice-aggregate-write-frame : tie.Need-slice-aggregate-write-frame
-slice-aggregate-write-frame c = sym (size (c .before .before .before))
-
-sub-write-frame : tie.Need-sub-write-frame
-sub-write-frame c = simp length-set (omega arith)
-
-part-write-frame-start : tie.Need-part-write-frame-start
-part-write-frame-start c = simp length-set (omega arith)
-
-same-length : tie.Need-same-length
-same-length c = kept (c .before .before .before)
+    ∙ over-length (wakeUp ++ frameFor (s .args .address) (s .args .control) (bytes s)) (s .args .out .now) (omega (arith, framed, few s, s .pre .1))
 
 returns : tie.Need-returns
 returns c = absurd (⊎-elim (λ e. omega arith) (λ e. omega arith) (rw (answered (c .before .before .before)) at (c .match .keys2)))
@@ -104,14 +80,11 @@ returns c = absurd (⊎-elim (λ e. omega arith) (λ e. omega arith) (rw (answer
 given : (c : tie.After-known-told) → c .before .n .given .0 .0 ≡ 12 + start-of (c .before .before .before .before .before) .args .payload .count
 given c =
     let w = c .before .before .before .before .before in
-    let same : c .before .n .given .0 .0 ≡ 12 + length (meant (start-of w)) = cc (c .before .n .given .1, answered w) in
+    let same : c .before .n .given .0 .0 ≡ 12 + length (bytes (start-of w)) = cc (c .before .n .given .1, answered w) in
     same ∙ ap (λ (k : ℕ). 12 + k) (size (start-of w))
 
 add-result : tie.Need-add-result
 add-result c = omega (arith, given c, start-of (c .before .before .before .before .before) .pre .0)
-
-same-length-2 : tie.Need-same-length-2
-same-length-2 c = kept (c .before .before .before .before .before)
 
 returns-2 : tie.Need-returns-2
 returns-2 c =
@@ -124,18 +97,18 @@ write-request-spec =
     tie.close
     (tie.spec
     (λ c. search needs)
-    slice-write-out-2
-    slice-write-out-3
-    slice-write-out-4
-    array-share-prefix-meant
-    slice-aggregate-write-frame
-    sub-write-frame
-    part-write-frame-start
+    (λ c. simp length-set (omega arith))
+    (λ c. simp length-set (omega arith))
+    (λ c. simp length-set (omega arith))
+    (λ c. fits (c .before .before))
+    (λ c. sym (size (c .before .before .before)))
+    (λ c. simp length-set (omega arith))
+    (λ c. simp length-set (omega arith))
     (λ c. search needs)
     (λ c κs. search needs)
     (λ c. search needs)
-    same-length
+    (λ c. kept (c .before .before .before))
     returns
     add-result
-    same-length-2
+    (λ c. kept (c .before .before .before .before .before))
     returns-2)

@@ -6,7 +6,7 @@ use Rattle.reader_judgement.proofs.answer.is_normal.Tie as tie
 
 returns : tie.Need-returns
 unfolding isNormal
-returns c = rw (c .reply-to .ensures, c .before .control-of .ensures)
+returns c = rw (c .reply-to .ensures, c .before .control-of .ensures, c .before .before .command-for .ensures)
 
 pub is-normal-spec : {M : Type 1} → statement M
-is-normal-spec = tie.close (tie.spec (λ c κs. search needs) (λ c κs. search needs) returns)
+is-normal-spec = tie.close (tie.spec (λ c κs. search needs) (λ c κs. search needs) (λ c κs. search needs) returns)

@@ -13,7 +13,7 @@ use Rattle.reader_judgement.proofs.judge.judge_address.Tie as tie
 
 -- the first `k` checks hold
 abbrev Passed : tie.Start → ℕ → Type 0
-Passed s k = Held Refused (normalChecks ReadAddress 0 (s .args .t1) (s .args .meant .now)) (Value (length (s .args .meant .now))) k
+Passed s k = Held Refused (normalChecks ReadAddress 0 (s .args .t1) (s .args .payload .now)) (Value (length (s .args .payload .now))) k
 
 -- the places where one check more has passed, back to the start
 abbrev start-of : tie.Else1 → tie.Start

@@ -21,15 +21,15 @@ use Rattle.reader_judgement.proofs.judge.judge_read.Statement.{statemen
 use Rattle.reader_judgement.proofs.judge.judge_read.Tie as tie
 
 -- the data, and what is behind the identifier
-abbrev meant : tie.Start → List ℕ
-meant s = s .args .meant .now
+abbrev payload : tie.Start → List ℕ
+payload s = s .args .payload .now
 
 abbrev value : tie.Start → List ℕ
-value s = drop 4 (meant s)
+value s = drop 4 (payload s)
 
 -- the first `k` checks hold
 abbrev Passed : tie.Start → ℕ → Type 0
-Passed s k = Held Refused (normalChecks ReadData (s .args .identifier) [] (meant s)) (Value (length (value s))) k
+Passed s k = Held Refused (normalChecks ReadData (s .args .identifier) [] (payload s)) (Value (length (value s))) k
 
 -- the places where one check more has passed, back to the start
 abbrev start-of : tie.Else1 → tie.Start
@@ -52,7 +52,7 @@ long c = check-holds all-left (le-leb 4 _ (c .if1 .left))
 -- whether it is the identifier asked
 identifier-test : (c : tie.After-same-bytes) →
     let s = start-of (long-of c) in
-    same (take 4 (meant s)) (identifierBytes (s .args .identifier)) ≡ c .same-bytes .result
+    same (take 4 (payload s)) (identifierBytes (s .args .identifier)) ≡ c .same-bytes .result
 identifier-test c = rw (← c .before .before .before .identifier-bytes .ensures) (sym (c .same-bytes .ensures))
 
 identified : (c : tie.Else2) → Passed (start-of (long-of (c .before))) 2
@@ -65,7 +65,7 @@ item c = c .before .before .item .given .0 .0
 
 length-test : (c : tie.After-struct-known) →
     let s = start-of (long-of (identifier-of (item-of c) .before)) in
-    hasLength (itemOf (s .args .identifier)) (length (value s)) ≡ eqb (length (take (length (meant s) - 4) (value s))) (item c .length)
+    hasLength (itemOf (s .args .identifier)) (length (value s)) ≡ eqb (length (take (length (payload s) - 4) (value s))) (item c .length)
 length-test c = rw (sym (item-of c .item-of .ensures) ∙ c .before .before .item .given .1, part-to-end _ 4)
 
 right-length : (c : tie.Else3) → Passed (start-of (long-of (identifier-of (item-of (c .before)) .before))) 3
@@ -82,7 +82,7 @@ unfolding normalChecks
 returns c = check-fails all-left (lt-leb 4 _ (c .if1 .taken))
 
 slice-aggregate-same-bytes : tie.Need-slice-aggregate-same-bytes
-slice-aggregate-same-bytes c = sym (length-take-le 4 (meant (start-of (c .before .before))) (c .before .before .if1 .left))
+slice-aggregate-same-bytes c = sym (length-take-le 4 (payload (start-of (c .before .before))) (c .before .before .if1 .left))
 
 returns-2 : tie.Need-returns-2
 unfolding normalChecks
