@@ -16,7 +16,7 @@ use Rattle.reader_judgement.specs.declared.Action.the-variants.{WriteData}
 use Rattle.reader.specs.declared.Request.{Request}
 use Rattle.exchange.specs.Exchange.{Memories}
 use Rattle.exchange.specs.Hearing.{Brings, DeliveredLast, delivered-last}
-use Rattle.exchange.specs.EndToEnd.{Typed, MeantFor, IsRead, EnoughMemory, ReadGives, Authorised, WriteSets, WriteFails, GetsSilence}
+use Rattle.exchange.specs.ExchangeTerms.{Typed, MeantFor, IsRead, EnoughMemory, ReadGives, Authorised, WriteSets, WriteFails, GetsSilence}
 use Rattle.exchange.specs.RequestFrameLaws.{request-frame}
 use Rattle.exchange.specs.Reads.{read-gives}
 use Rattle.exchange.specs.WritesAcross.{write-sets, write-fails}
@@ -24,7 +24,7 @@ use Rattle.exchange.specs.Foreign.{gets-silence}
 use Rattle.item_command.specs.Reply.{notAuthorised}
 
 -- What holds of an exchange of a request with a meter.
-pub record EndToEnd (request : Request) (m : Meter) (forward reverse : Rows) (lent : Memories) : Type 0 where
+pub record ExchangeIsRight (request : Request) (m : Meter) (forward reverse : Rows) (lent : Memories) : Type 0 where
   -- A fresh receiver delivers exactly one frame, with the request's last byte and not before, whatever memory each call is lent.
   pub heard : (calls : List ReceiverCall) → Brings (requestBytes request) calls → Calls fresh calls → DeliveredLast (requestFrame request) calls
   -- A read meant for this meter gives what it holds.
@@ -37,7 +37,7 @@ pub record EndToEnd (request : Request) (m : Meter) (forward reverse : Rows) (le
 
 -- Demand 2.
 pub demand-2 : (request : Request) → Typed request → AllowedInWords (request .action) request → (m : Meter) (forward reverse : Rows) → MeterSized m
-    → InRanges m forward reverse → (lent : Memories) → EnoughMemory lent → EndToEnd request m forward reverse lent
+    → InRanges m forward reverse → (lent : Memories) → EnoughMemory lent → ExchangeIsRight request m forward reverse lent
 unfolding requestBytes
 demand-2 request typed words m forward reverse sized ranges lent room =
     let allowed : isAllowed request ≡ true = allowed-words request (typed .sized) .1 words in

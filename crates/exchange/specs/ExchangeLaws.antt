@@ -16,7 +16,7 @@ use Rattle.energy.specs.Energies.{Rows}
 use Rattle.meter.specs.Meter as meter
 use Rattle.item_command.specs.Command.{controlFor}
 use Rattle.meter.specs.Answer.{replies, replyData, meterAfter, delivered, answered, valueAsked}
-use Rattle.meter.specs.AfterLaws.{sized-after}
+use Rattle.meter.specs.MeterAfterLaws.{sized-after}
 use Rattle.meter.specs.AnswerLaws.{Answers, refuses, errs, carries, answers}
 use Rattle.meter.specs.declared.Meter.{Meter}
 use Rattle.meter.specs.declared.Answered.{Answered}
@@ -27,7 +27,7 @@ use Rattle.reader.specs.declared.Built.{Built}
 use Rattle.reader.specs.declared.Built.the-variants.{Length, Refused}
 use Rattle.reader.specs.declared.Request.{Request}
 use Rattle.exchange.specs.Exchange.{Memories, memories, outcomeOf, isEnough, enough, WakeUpFrame, WithinReply, concluded, carried}
-use Rattle.exchange.specs.EndToEnd.{EnoughMemory}
+use Rattle.exchange.specs.ExchangeTerms.{EnoughMemory}
 use Rattle.exchange.specs.declared.Exchanged.{Exchanged}
 use Rattle.meter.specs.MeterLaws.{untouched-sized}
 

@@ -13,7 +13,7 @@ use Rattle.reader.specs.Building.{requestFrame}
 use Rattle.reader.specs.declared.Request.{Request}
 use Rattle.reader_judgement.specs.Judging.{commandFor}
 use Rattle.exchange.specs.Exchange.{Memories}
-use Rattle.exchange.specs.EndToEnd.{Typed, MeantFor, EnoughMemory, GetsSilence}
+use Rattle.exchange.specs.ExchangeTerms.{Typed, MeantFor, EnoughMemory, GetsSilence}
 use Rattle.exchange.specs.RequestFrameLaws.{request-frame, request-address, request-control, silent-exchange}
 
 module _ (request : Request) (typed : Typed request) (allowed : isAllowed request ≡ true) (m : Meter) (forward reverse : Rows) (sized : MeterSized m)

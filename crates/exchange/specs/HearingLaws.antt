@@ -18,8 +18,8 @@ use Rattle.frame.specs.declared.Recognised.the-variants.{Whole}
 use Rattle.line_terms.specs.Line.{byte}
 use Rattle.line_terms.specs.Places.{Found, joined}
 use Rattle.line_terms.specs.Scan.{LineReading, beforeSilence, before, scan}
-use Rattle.line.specs.Drain.{symbols, readingFrom}
-use Rattle.line.specs.DrainLaws.{reading-end, reading-whole, reading-neither, reading-open}
+use Rattle.line_block.specs.Drain.{symbols, readingFrom}
+use Rattle.line_block.specs.DrainLaws.{reading-end, reading-whole, reading-neither, reading-open}
 use Rattle.line.specs.Receiver.{fresh, called}
 use Rattle.line.specs.CallLaws.{newFrames, new-after, HasReceived, fresh-received}
 use Rattle.line.specs.DeliversLaws.{Delivers, call-delivers}

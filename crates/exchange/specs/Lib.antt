@@ -1,7 +1,7 @@
 pub mod Exchange
 pub mod HearingLaws
 pub mod Hearing
-pub mod EndToEnd
+pub mod ExchangeTerms
 pub mod ExchangeLaws
 pub mod RequestFrameLaws
 pub mod ReplyLaws

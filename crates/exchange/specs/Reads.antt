@@ -42,7 +42,7 @@ use Rattle.reader_judgement.specs.declared.Judgement.the-variants.{Value}
 use Rattle.reader.specs.declared.Request.{Request}
 use Rattle.exchange.specs.Exchange.{Memories, exchanged}
 use Rattle.energy.specs.Decoded.{readings-decoded}
-use Rattle.exchange.specs.EndToEnd.{Typed, MeantFor, IsRead, heldFor, replyFrame, EnoughMemory, comesTo, ReadGives}
+use Rattle.exchange.specs.ExchangeTerms.{Typed, MeantFor, IsRead, heldFor, replyFrame, EnoughMemory, comesTo, ReadGives}
 use Rattle.exchange.specs.RequestFrameLaws.{request-data, replied-exchange}
 use Rattle.item_identifier.specs.IdentifierLaws.{identifier-back, identifier-are-bytes}
 use Rattle.exchange.specs.ReplyLaws.{read-answered, value-judged, address-judged, value-decimal, request-reaches}

@@ -39,7 +39,7 @@ use Rattle.reader_judgement.specs.Judging.{commandFor, isError, answersFrom, no
 use Rattle.reader_judgement.specs.declared.Action.the-variants.{ReadData, ReadAddress}
 use Rattle.reader_judgement.specs.declared.Judgement.the-variants.{Value}
 use Rattle.reader.specs.declared.Request.{Request}
-use Rattle.exchange.specs.EndToEnd.{Typed, MeantFor}
+use Rattle.exchange.specs.ExchangeTerms.{Typed, MeantFor}
 use Rattle.exchange.specs.RequestFrameLaws.{address-six, request-frame, request-address, request-control}
 
 -- An address and the address of a meter: both of six bytes, and the meter's good.

@@ -35,7 +35,7 @@ use Rattle.reader.specs.declared.Request.{Request}
 use Rattle.reader_judgement.specs.declared.Judgement.{Judgement}
 use Rattle.exchange.specs.Exchange.{Memories, isEnough, concluded, carried, exchanged}
 use Rattle.exchange.specs.ExchangeLaws.{sent-frame}
-use Rattle.exchange.specs.EndToEnd.{Typed, EnoughMemory, comesTo}
+use Rattle.exchange.specs.ExchangeTerms.{Typed, EnoughMemory, comesTo}
 use Rattle.exchange.specs.declared.ExchangeAnswer.the-variants.{Silent, Judged}
 
 -- A written frame with nothing behind it, taken apart.

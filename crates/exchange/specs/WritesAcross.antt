@@ -42,7 +42,7 @@ use Rattle.reader_judgement.specs.declared.Action.the-variants.{WriteData}
 use Rattle.reader_judgement.specs.declared.Judgement.the-variants.{Value, Error}
 use Rattle.reader.specs.declared.Request.{Request}
 use Rattle.exchange.specs.Exchange.{Memories}
-use Rattle.exchange.specs.EndToEnd.{Typed, MeantFor, replyFrame, EnoughMemory, comesTo, Authorised, WriteSets, WriteFails}
+use Rattle.exchange.specs.ExchangeTerms.{Typed, MeantFor, replyFrame, EnoughMemory, comesTo, Authorised, WriteSets, WriteFails}
 use Rattle.exchange.specs.RequestFrameLaws.{request-frame, request-address, request-control, request-data, replied-exchange}
 use Rattle.item_identifier.specs.IdentifierLaws.{identifier-back}
 use Rattle.exchange.specs.declared.ExchangeAnswer.the-variants.{Judged}

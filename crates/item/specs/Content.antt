@@ -68,7 +68,7 @@ afterScan AllDecimal false = OutOfRange
 unfoldable pub contentOf : Kind → List ℕ → Content
 contentOf kind value = afterScan (firstBad value) (inRange kind value)
 
-abbrev pub isAllowed : Content → Bool
-isAllowed Allowed = true
-isAllowed (NotDecimal i) = false
-isAllowed OutOfRange = false
+abbrev pub contentIsAllowed : Content → Bool
+contentIsAllowed Allowed = true
+contentIsAllowed (NotDecimal i) = false
+contentIsAllowed OutOfRange = false

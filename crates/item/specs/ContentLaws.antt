@@ -10,7 +10,7 @@ use Rattle.item_range.specs.Range.{within}
 use Rattle.item_range.specs.RangeLaws.{within-iff}
 use Rattle.item_decimal.specs.Decimal.{Decimal, firstBad}
 use Rattle.item_decimal.specs.DecimalLaws.{scan-decimal, decimal-scan}
-use Rattle.item.specs.Content.{digitsAt, threeWithin, dateInRange, timeInRange, minutesInRange, notSet, settlementDayInRange, inRange, afterScan, contentOf, isAllowed}
+use Rattle.item.specs.Content.{digitsAt, threeWithin, dateInRange, timeInRange, minutesInRange, notSet, settlementDayInRange, inRange, afterScan, contentOf, contentIsAllowed}
 use Rattle.item_decimal.specs.declared.Scan.{Scan}
 use Rattle.item_decimal.specs.declared.Scan.the-variants.{AllDecimal, BadAt}
 use Rattle.item.specs.declared.table.Kind.{Kind}
@@ -97,8 +97,8 @@ module _ (value : List ℕ) where
 -- Allowed is what the scan finds nothing in and the ranges hold of.
 pub after-scan : (scan : Scan) (ranges : Bool) → afterScan scan ranges ≡ Allowed → (scan ≡ AllDecimal) × (ranges ≡ true)
 after-scan AllDecimal true h = (refl, refl)
-after-scan AllDecimal false h = (refl, ap isAllowed h)
-after-scan (BadAt i) ranges h = absurd (false≢true (ap isAllowed h))
+after-scan AllDecimal false h = (refl, ap contentIsAllowed h)
+after-scan (BadAt i) ranges h = absurd (false≢true (ap contentIsAllowed h))
 
 pub content-allowed : (kind : Kind) (value : List ℕ) → contentOf kind value ≡ Allowed ↔ (Decimal value × Range kind value)
 unfolding contentOf

@@ -17,11 +17,11 @@ use Rattle.line_terms.specs.Line.{Symbol, byte, silence}
 use Rattle.line_terms.specs.Places.{joined}
 use Rattle.line_terms.specs.Scan.{LineReading, before, beforeSilence}
 use Rattle.line.specs.Receiver.{keptBytes, keptWith, withinRange, refused, readingWith, keeping, delivered, called}
-use Rattle.line.specs.Drain.{symbols, readingFrom, Drains, Rescans}
-use Rattle.line.specs.DrainLaws.{reading-end, reading-whole, reading-neither, reading-open, reading-closed}
+use Rattle.line_block.specs.Drain.{symbols, readingFrom}
+use Rattle.line_block.specs.DrainLaws.{reading-end, reading-whole, reading-neither, reading-open, reading-closed}
+use Rattle.line.specs.Rescan.{Rescans}
 use Rattle.line.specs.declared.Receiver.{Receiver}
 use Rattle.line.specs.declared.Received.{Received}
-use Rattle.line.specs.declared.drain.Drained.{Drained}
 use Rattle.line.specs.declared.drain.Rescanned.{Rescanned}
 use Rattle.line.specs.declared.Answer.the-variants.{Refused, Delivered}
 
@@ -128,16 +128,11 @@ module _ (r : Receiver) (b : ℕ) (m : List ℕ) (good : withinRange r ≡ true)
       }))
 
 -- A silence closes what is kept.
-pub call-silent : (r : Receiver) (m m₁ : List ℕ) (d : Drained) → withinRange r ≡ true → 212 ≤ length m → Drains (keptBytes r) 0 true m m₁ d →
-    answered (record { kept = r .kept; count = 0 }) (d .bytes) (d .frames) m₁ ≡ called silence r m
-call-silent r m m₁ d good roomy w =
-    let none : readingFrom 0 (keptBytes r) true .kept ≡ [] = reading-closed 0 (keptBytes r) in
-    rescans-delivers (readingFrom 0 (keptBytes r) true) r (r .kept) m m₁ (record { count = 0; bytes = d .bytes; frames = d .frames })
-    (record {
-      rest = ap (λ (l : List ℕ). over l (r .kept)) (sym none);
-      count = ap length (sym none);
-      memory = w .memory;
-      bytes = w .bytes;
-      frames = w .frames;
-    })
+pub call-silent : (r : Receiver) (m m₁ : List ℕ) (n : Rescanned) → withinRange r ≡ true → 212 ≤ length m →
+    Rescans (readingFrom 0 (keptBytes r) true) (r .kept) (r .kept) m m₁ n →
+    answered (record { kept = r .kept; count = 0 }) (n .bytes) (n .frames) m₁ ≡ called silence r m
+call-silent r m m₁ n good roomy w =
+    let none : n .count ≡ 0 = w .count ∙ ap length (reading-closed 0 (keptBytes r)) in
+    (λ i. answered (record { kept = r .kept; count = sym none i }) (n .bytes) (n .frames) m₁)
+    ∙ rescans-delivers (readingFrom 0 (keptBytes r) true) r (r .kept) m m₁ n w
     ∙ sym (call-reads r silence m good roomy ∙ ap (λ (q : LineReading). delivered q r m) (reading-silence r))

@@ -1,7 +1,7 @@
 pub mod Receiver
 pub mod CallLaws
 pub mod Demand3
-pub mod Drain
-pub mod DrainLaws
+pub mod Rescan
+pub mod RescanLaws
 pub mod CallCases
 pub mod DeliversLaws

@@ -1,5 +1,6 @@
 // Delivers the frames that stand in bytes whose first place cannot become a frame any more.
 use frame::MOST_FRAME;
+use line_block::BlockAnswer;
 use line_verdict::MOST_KEPT;
 ghost use mathlib.Core.Path.{_≡_};
 ghost use mathlib.Core.List.{_++_, _∷_, []};
@@ -10,15 +11,9 @@ ghost use Rattle.laws.specs.Memory.{over};
 ghost use Rattle.frame.specs.Frame.{mostFrame};
 ghost use Rattle.frame.specs.Recognition.{recognised};
 ghost use Rattle.frame.specs.declared.Recognised.the-variants.{Neither};
-ghost use Rattle.line_verdict.specs.Verdict.{mostKept};
-ghost use Rattle.line.specs.Drain.{Drains, Rescans, readingFrom};
-
-// Where draining stopped, and how many bytes of how many frames it delivered.
-pub(crate) struct Drained {
-    pub at: usize,
-    pub bytes: usize,
-    pub frames: usize,
-}
+ghost use Rattle.line_verdict.specs.Verdict.{mostKept, isOpen};
+ghost use Rattle.line_block.specs.Drain.{readingFrom};
+ghost use Rattle.line.specs.Rescan.{Rescans};
 
 // How many bytes are kept, and how many bytes of how many frames were delivered.
 pub(crate) struct Rescanned {
@@ -27,44 +22,15 @@ pub(crate) struct Rescanned {
     pub frames: usize,
 }
 
-// Delivers the frames of `line` from `start` on, end to end, to the front of `out`. It stops at the first place that may
-// still become a frame, or at the end; where a silence follows, `closed`, no unfinished place is left.
-fn drain(line: &[u8], start: usize, closed: bool, out: &mut [u8]) -> Drained
-    requires { ⌜ (start ≤ length (now line)) × (length (now line) ≤ length (now out)) ⌝ }
-    ensures { λ r. ⌜ Drains (now (line .entry)) start closed (now (out .entry)) (now (out .exit)) r ⌝ }
+// Whether the bytes are a proper beginning of a frame.
+fn is_open(line: &[u8]) -> bool
+    ensures { λ r. ⌜ r ≡ isOpen (recognised (now (line .entry))) ⌝ }
 {
-    let n = line.len();
-    let mut at = start;
-    let mut written = 0;
-    let mut frames = 0;
-    while at < n {
-        let found = frame::recognise(&line[at..]);
-        match found {
-            frame::Recognised::Whole(k) => {
-                bytes::copy(&line[at..at + k], &mut out[written..]);
-                written += k;
-                frames += 1;
-                at += k;
-            }
-            frame::Recognised::Open => {
-                if !closed {
-                    return Drained {
-                        at,
-                        bytes: written,
-                        frames,
-                    };
-                }
-                at += 1;
-            }
-            frame::Recognised::Neither => {
-                at += 1;
-            }
-        }
-    }
-    Drained {
-        at,
-        bytes: written,
-        frames,
+    let found = frame::recognise(line);
+    match found {
+        frame::Recognised::Whole(_) => false,
+        frame::Recognised::Open => true,
+        frame::Recognised::Neither => false,
     }
 }
 
@@ -78,7 +44,8 @@ pub(crate) fn join(kept: &[u8], count: usize, b: u8, out: &mut [u8])
 }
 
 // Reads the first `count` bytes of `kept` and the byte after them, which begin no frame, from the second place on: delivers
-// the frames that stand in them, and keeps the unfinished rest.
+// the frames that stand in them, and keeps the unfinished rest. Where those bytes are open, as mostly in a flood of 68, there
+// is nothing to deliver, and they are not read.
 pub(crate) fn rescan(kept: &mut [u8; MOST_KEPT], count: usize, b: u8, out: &mut [u8]) -> Rescanned
     requires { ⌜ (length (now kept) ≡ mostKept) × (count ≤ mostKept) × (mostFrame ≤ length (now out)) ⌝ }
     requires { ⌜ recognised (take count (now kept) ++ (b ∷ [])) ≡ Neither ⌝ }
@@ -87,20 +54,52 @@ pub(crate) fn rescan(kept: &mut [u8; MOST_KEPT], count: usize, b: u8, out: &mut 
     let mut line = [0u8; MOST_FRAME];
     join(kept, count, b, &mut line);
     let n = count + 1;
-    let d = drain(&line[..n], 1, false, out);
-    let at = d.at;
+    let mut at = 1;
+    let mut written = 0;
+    let mut found = 0;
+    if !is_open(&line[1..n]) {
+        let answer = line_block::read_block(&line[1..n], false, out);
+        match answer {
+            BlockAnswer::Refused(_) => {}
+            BlockAnswer::Delivered {
+                bytes,
+                frames,
+                rest,
+            } => {
+                at = rest + 1;
+                written = bytes;
+                found = frames;
+            }
+        }
+    }
     bytes::copy(&line[at..n], kept);
     Rescanned {
         count: n - at,
-        bytes: d.bytes,
-        frames: d.frames,
+        bytes: written,
+        frames: found,
     }
 }
 
-// Delivers the frames that stand in the first `count` bytes of `kept`, behind which a silence stands.
-pub(crate) fn drain_at_silence(kept: &[u8], count: usize, out: &mut [u8]) -> Drained
+// Delivers the frames that stand in the first `count` bytes of `kept`, behind which a silence stands; none of them are kept.
+pub(crate) fn drain_at_silence(kept: &[u8], count: usize, out: &mut [u8]) -> Rescanned
     requires { ⌜ (count ≤ length (now kept)) × (count ≤ length (now out)) ⌝ }
-    ensures { λ r. ⌜ Drains (take count (now (kept .entry))) 0 true (now (out .entry)) (now (out .exit)) r ⌝ }
+    ensures { λ r. ⌜ Rescans (readingFrom 0 (take count (now (kept .entry))) true) (now (kept .entry)) (now (kept .entry)) (now (out .entry)) (now (out .exit)) r ⌝ }
 {
-    drain(&kept[..count], 0, true, out)
+    let answer = line_block::read_block(&kept[..count], true, out);
+    match answer {
+        BlockAnswer::Refused(_) => Rescanned {
+            count: 0,
+            bytes: 0,
+            frames: 0,
+        },
+        BlockAnswer::Delivered {
+            bytes,
+            frames,
+            rest: _,
+        } => Rescanned {
+            count: 0,
+            bytes,
+            frames,
+        },
+    }
 }

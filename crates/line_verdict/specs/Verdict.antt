@@ -32,20 +32,20 @@ abbrev pub keptWith : List ℕ → ℕ → ℕ → List ℕ
 keptWith kept count b = take count kept ++ (b ∷ [])
 
 -- What kept bytes come to with a byte, by what they begin with it. Where nothing is kept, a byte that begins no frame is skipped.
-abbrev pub comesTo : ℕ → Recognised → Verdict
-comesTo count (found.Whole n) = Whole
-comesTo count found.Open = StillOpen
-comesTo count found.Neither = pick (eqb count 0) Skips BeginsNone
+abbrev pub verdictFor : ℕ → Recognised → Verdict
+verdictFor count (found.Whole n) = Whole
+verdictFor count found.Open = StillOpen
+verdictFor count found.Neither = pick (eqb count 0) Skips BeginsNone
 
 -- The verdict where the output buffer is not looked at.
 unfoldable pub judged : List ℕ → ℕ → ℕ → Verdict
-judged kept count b = pick (withinRange kept count) (comesTo count (recognised (keptWith kept count b))) Bad
+judged kept count b = pick (withinRange kept count) (verdictFor count (recognised (keptWith kept count b))) Bad
 
 -- The verdict where the output buffer has `room` bytes: 16 before 1, and 1 before what the bytes come to.
 unfoldable pub verdictOn : List ℕ → ℕ → ℕ → ℕ → Verdict
 verdictOn kept count b room =
     pick (withinRange kept count)
-    (pick (leb mostFrame room) (comesTo count (recognised (keptWith kept count b))) Short)
+    (pick (leb mostFrame room) (verdictFor count (recognised (keptWith kept count b))) Short)
     Bad
 
 -- The kept bytes have both start delimiters and a data length in range, and m is the place of the checksum.

@@ -14,7 +14,7 @@ use Rattle.frame.specs.Recognition.{stage, recognised, recognisedBody, recognis
 use Rattle.frame.specs.StageLaws.{stage-open, stage-passed, stage-wrong}
 use Rattle.frame.specs.declared.Recognised.{Recognised}
 use Rattle.frame.specs.declared.Recognised.the-variants as found
-use Rattle.line_verdict.specs.Verdict.{isOpen, withinRange, keptWith, comesTo, judged, Headed}
+use Rattle.line_verdict.specs.Verdict.{isOpen, withinRange, keptWith, verdictFor, judged, Headed}
 use Rattle.line_verdict.specs.declared.Verdict.the-variants.{Bad, Skips, StillOpen, Whole, BeginsNone}
 
 -- A list has the array's first n bytes in front.
@@ -102,7 +102,7 @@ module _ (kept : List ℕ) (n b : ℕ) where
   unfolding judged
   judged-bad e = rw e
 
-  pub judged-as : {v : Recognised} → withinRange kept n ≡ true → recognised (keptWith kept n b) ≡ v → comesTo n v ≡ judged kept n b
+  pub judged-as : {v : Recognised} → withinRange kept n ≡ true → recognised (keptWith kept n b) ≡ v → verdictFor n v ≡ judged kept n b
   unfolding judged
   judged-as good e = rw (good, e)
 
@@ -144,7 +144,7 @@ module _ (kept : List ℕ) (n b : ℕ) (size : length kept ≡ 211) (fits : n �
     still-open-before h =
         judged-as kept n b (still-open (omega arith)) (reach _ new ∙ stage-open with i (test with) (next with) (rw longer (omega arith)))
 
-    ends-at : n ≡ i → test with ≡ false → comesTo n found.Neither ≡ judged kept n b
+    ends-at : n ≡ i → test with ≡ false → verdictFor n found.Neither ≡ judged kept n b
     ends-at h f = judged-as kept n b (still-open (omega arith)) (reach _ new ∙ stage-wrong with i (next with) (rw longer (omega arith)) f)
 
     pub skips-at : n ≡ 0 → n ≡ i → test with ≡ false → Skips ≡ judged kept n b

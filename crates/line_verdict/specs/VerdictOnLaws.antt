@@ -15,13 +15,13 @@ use Rattle.frame.specs.Recognition.{recognised}
 use Rattle.frame.specs.RecognitionLaws.{whole-within, whole-frame, frame-whole}
 use Rattle.frame.specs.declared.Recognised.{Recognised}
 use Rattle.frame.specs.declared.Recognised.the-variants as found
-use Rattle.line_verdict.specs.Verdict.{isOpen, withinRange, keptWith, comesTo, judged, verdictOn}
+use Rattle.line_verdict.specs.Verdict.{isOpen, withinRange, keptWith, verdictFor, judged, verdictOn}
 use Rattle.line_verdict.specs.declared.Verdict.{Verdict}
 use Rattle.line_verdict.specs.declared.Verdict.the-variants.{Bad, Short, Skips, StillOpen, Whole, BeginsNone}
 
 -- The verdict with the output buffer, by the verdict without it.
 module _ (kept : List ℕ) (count b room : ℕ) where
-  never-bad : (v : Recognised) → Bad ≡ comesTo count v → ⊥
+  never-bad : (v : Recognised) → Bad ≡ verdictFor count v → ⊥
   never-bad (found.Whole n) e = let z : _≡_ {A = ℕ} 0 1 = cc in omega arith
   never-bad found.Open e = let z : _≡_ {A = ℕ} 0 1 = cc in omega arith
   never-bad found.Neither e = go (eqb count 0) e
@@ -34,8 +34,8 @@ module _ (kept : List ℕ) (count b room : ℕ) where
   unfolding judged verdictOn
   verdict-on-bad = go (withinRange kept count)
     where
-      go : (t : Bool) → Bad ≡ pick t (comesTo count (recognised (keptWith kept count b))) Bad →
-          Bad ≡ pick t (pick (leb 212 room) (comesTo count (recognised (keptWith kept count b))) Short) Bad
+      go : (t : Bool) → Bad ≡ pick t (verdictFor count (recognised (keptWith kept count b))) Bad →
+          Bad ≡ pick t (pick (leb 212 room) (verdictFor count (recognised (keptWith kept count b))) Short) Bad
       go true e = absurd (never-bad (recognised (keptWith kept count b)) e)
       go false e = e
 
@@ -98,7 +98,7 @@ VerdictSays kept count b room BeginsNone = (withinRange kept count ≡ true) × 
 
 module _ (kept : List ℕ) (count b room : ℕ) (size : length kept ≡ 211) where
   comes : (v : Recognised) → recognised (keptWith kept count b) ≡ v → withinRange kept count ≡ true → 212 ≤ room →
-      VerdictSays kept count b room (comesTo count v)
+      VerdictSays kept count b room (verdictFor count v)
   comes (found.Whole n) e good roomy =
       let most : count ≤ 211 = within-most kept count good in
       let l : length (take count kept) ≡ count = length-take-le count kept (omega arith) in

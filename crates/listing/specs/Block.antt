@@ -9,7 +9,7 @@ use Rattle.laws.specs.Test.{pick}
 use Rattle.frame.specs.Refusals.{shortMemory}
 use Rattle.line_terms.specs.Places.{Found, joined}
 use Rattle.line_terms.specs.Scan.{LineReading}
-use Rattle.recording.specs.Block.{blockReading}
+use Rattle.line_block.specs.Block.{blockReading}
 use Rattle.listing.specs.Lines.{linesOf}
 use Rattle.listing.specs.declared.block.BlockListed.{BlockListed}
 use Rattle.listing.specs.declared.block.BlockListed.the-variants.{Refused, Listed}

@@ -14,11 +14,11 @@ use Rattle.laws.specs.TestLaws.{pick-cases}
 use Rattle.frame.specs.EndToEnd.{EndToEnd, cutFrom, cut}
 use Rattle.frame.specs.EndToEndLaws.{cut-next}
 use Rattle.line_terms.specs.Places.{Found, joined}
-use Rattle.line.specs.Drain.{symbols, readingFrom}
+use Rattle.line_block.specs.Drain.{symbols, readingFrom}
 use Rattle.line_terms.specs.FoundFrames.{AllFrames, scan-frames, joined-end-to-end}
-use Rattle.recording.specs.Block.{blockReading, blockRead}
-use Rattle.recording.specs.BlockLaws.{Within, block-few, rest-most, BlockDelivers, read-declines, delivers-front}
-use Rattle.recording.specs.declared.BlockAnswer.the-variants as read
+use Rattle.line_block.specs.Block.{blockReading, blockRead}
+use Rattle.line_block.specs.BlockLaws.{Within, block-few, rest-most, BlockDelivers, read-declines, delivers-front}
+use Rattle.line_block.specs.declared.BlockAnswer.the-variants as read
 use Rattle.listing.specs.Lines.{linesOf}
 use Rattle.listing.specs.LinesLaws.{lines-twice}
 use Rattle.listing.specs.Block.{framesOf, BlockOutcome, blockOutcome, readingListed, blockListed}

@@ -11,8 +11,8 @@ use Rattle.frame.specs.EndToEnd.{EndToEnd, cutFrom, cut}
 use Rattle.frame.specs.EndToEndLaws.{cut-append}
 use Rattle.line_terms.specs.FoundFrames.{AllFrames}
 use Rattle.line.specs.Demand3.{Exactly}
-use Rattle.recording.specs.Block.{blockRead}
-use Rattle.recording.specs.RestLaws.{rest-there}
+use Rattle.line_block.specs.Block.{blockRead}
+use Rattle.line_block.specs.RestLaws.{rest-there}
 use Rattle.recording.specs.Certain.{Due, due-frames}
 use Rattle.recording.specs.Blocks as read
 use Rattle.recording.specs.Blocks.{Block, IsRead, AreRead, lineOf, hasEnded, deliveredBy, deliveredBytes, readingBehind, ReadsTheLine, block-rest, block-delivers, blocks-due}

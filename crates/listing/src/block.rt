@@ -46,12 +46,12 @@ pub fn list_block(block: &[u8], ended: bool, frames: &mut [u8], text: &mut [u8])
     if text.len() / 2 < block.len() {
         return BlockListed::Refused(SHORT_MEMORY);
     }
-    let read = recording::read_block(block, ended, frames);
+    let read = line_block::read_block(block, ended, frames);
     match read {
-        recording::BlockAnswer::Refused(n) => {
+        line_block::BlockAnswer::Refused(n) => {
             return BlockListed::Refused(n);
         }
-        recording::BlockAnswer::Delivered {
+        line_block::BlockAnswer::Delivered {
             bytes,
             frames: _,
             rest,

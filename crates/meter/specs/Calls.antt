@@ -18,7 +18,7 @@ use Rattle.energy.specs.RangeLaws.{RowsInRange, zero-rows-in-range, pulsed-in-r
 use Rattle.meter_counting.specs.Counting as counting
 use Rattle.meter.specs.Host.{created, keySet, pulsedBy, settledBy}
 use Rattle.meter.specs.Answer.{delivered, answered}
-use Rattle.meter.specs.AfterLaws.{ranges-after}
+use Rattle.meter.specs.MeterAfterLaws.{ranges-after}
 use Rattle.meter.specs.AnswerLaws.{Answers, refuses, errs, carries, answers}
 use Rattle.meter_counting.specs.declared.Counted.{Counted}
 use Rattle.meter.specs.declared.Meter.{Meter}

@@ -3,7 +3,7 @@ pub mod MeterLaws
 pub mod Host
 pub mod Answer
 pub mod Ranges
-pub mod AfterLaws
+pub mod MeterAfterLaws
 pub mod AnswerLaws
 pub mod CarriedOutLaws
 pub mod Writes

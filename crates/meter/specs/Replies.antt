@@ -14,7 +14,7 @@ use Rattle.meter.specs.Meter.{MeterSized, untouched}
 use Rattle.item_command.specs.Command.{controlFor}
 use Rattle.meter.specs.Answer.{replies, replyData, meterAfter, delivered, answered, valueAsked}
 use Rattle.meter_decision.specs.DecisionLaws.{failsSilently}
-use Rattle.meter.specs.AfterLaws.{sized-after, address-kept, reply-fits}
+use Rattle.meter.specs.MeterAfterLaws.{sized-after, address-kept, reply-fits}
 use Rattle.meter.specs.AnswerLaws.{not-replied, reaches-one, Answers, refuses, errs, carries, answers}
 use Rattle.meter.specs.declared.Meter.{Meter}
 use Rattle.meter.specs.declared.FrameAnswer.the-variants.{Replied}

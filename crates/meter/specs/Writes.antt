@@ -31,7 +31,7 @@ use Rattle.item_command.specs.Addressee.{namesMeter, addressed}
 use Rattle.meter.specs.Answer.{replyData, meterAfter, answeredWith, delivered, answered, Unmoved}
 use Rattle.meter_decision.specs.DecisionLaws.{WriteHolds, write-holds, holds-write}
 use Rattle.item_command.specs.CommandLaws.{same-control}
-use Rattle.meter.specs.AfterLaws.{only-registers-of, sized-after, ranges-after, address-kept}
+use Rattle.meter.specs.MeterAfterLaws.{only-registers-of, sized-after, ranges-after, address-kept}
 use Rattle.meter.specs.AnswerLaws.{data-bytes, Reaches, answered-normal, not-replied, reply-control, Answers, refuses, errs, carries, answers}
 use Rattle.meter.specs.declared.Meter.{Meter}
 use Rattle.meter.specs.declared.FrameAnswer.the-variants.{Replied}

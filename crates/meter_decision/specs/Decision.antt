@@ -15,7 +15,7 @@ use Rattle.item_decimal.specs.Decimal.{allDecimal}
 use Rattle.item_identifier.specs.Identifier.{identifierOf}
 use Rattle.item_same.specs.Same.{same}
 use Rattle.item_range.specs.Range.{within}
-use Rattle.item.specs.Content.{contentOf, isAllowed}
+use Rattle.item.specs.Content.{contentOf, contentIsAllowed}
 use Rattle.item.specs.Table.{hasLength}
 use Rattle.item.specs.declared.table.Lookup.{Lookup}
 use Rattle.item.specs.declared.table.Lookup.the-variants.{Listed, NotListed}
@@ -42,7 +42,7 @@ isWritable (Listed item) = item .writable
 isWritable NotListed = false
 
 abbrev pub hasContent : Lookup → List ℕ → Bool
-hasContent (Listed item) value = isAllowed (contentOf (item .kind) value)
+hasContent (Listed item) value = contentIsAllowed (contentOf (item .kind) value)
 hasContent NotListed value = false
 
 -- The level is at most `most` and the password of that level is right: of 14 at most 04, of 18 at most the new level.

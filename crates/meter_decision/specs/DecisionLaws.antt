@@ -16,7 +16,7 @@ use Rattle.item_command.specs.declared.Command.{Command}
 use Rattle.item_command.specs.declared.Command.the-variants.{ReadData, ReadAddress, WriteData, WriteAddress, ChangePassword}
 use Rattle.item_range.specs.Range.{within}
 use Rattle.item_range.specs.RangeLaws.{within-iff}
-use Rattle.item.specs.Content.{isAllowed}
+use Rattle.item.specs.Content.{contentIsAllowed}
 use Rattle.item.specs.ContentLaws.{Range, content-allowed}
 use Rattle.item.specs.Table.{itemOf, hasLength}
 use Rattle.item.specs.declared.content.Content.{Content}
@@ -95,7 +95,7 @@ pub record WriteHolds (payload : List ℕ) (key : Bool) (passwords : List ℕ) :
   pub range : Range (item .kind) (writtenValue payload)
 
 -- The test of a content holds only of what is allowed.
-allowed : (c : Content) → isAllowed c ≡ true → c ≡ Allowed
+allowed : (c : Content) → contentIsAllowed c ≡ true → c ≡ Allowed
 allowed Allowed h = refl
 allowed (NotDecimal i) h = absurd (false≢true h)
 allowed OutOfRange h = absurd (false≢true h)

@@ -23,10 +23,10 @@ use Rattle.line.specs.DeliversLaws.{Delivers, call-delivers}
 use Rattle.line.specs.declared.Receiver.{Receiver}
 use Rattle.line.specs.declared.Received.{Received}
 use Rattle.line.specs.declared.Answer.the-variants.{Refused, Delivered}
-use Rattle.line.specs.Drain.{symbols, readingFrom}
-use Rattle.recording.specs.Block.{blockReading, delivered, blockRead}
-use Rattle.recording.specs.declared.BlockAnswer.{BlockAnswer}
-use Rattle.recording.specs.declared.BlockAnswer.the-variants as blocks
+use Rattle.line_block.specs.Drain.{symbols, readingFrom}
+use Rattle.line_block.specs.Block.{blockReading, delivered, blockRead}
+use Rattle.line_block.specs.declared.BlockAnswer.{BlockAnswer}
+use Rattle.line_block.specs.declared.BlockAnswer.the-variants as blocks
 use Rattle.receive_line.specs.WholeLine.{framesIn, receivedLine}
 
 -- Where no bytes are gathered behind the first `at` of memory, it is as it was.

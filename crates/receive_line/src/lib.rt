@@ -4,7 +4,7 @@ use frame::MOST_FRAME;
 use line::Answer;
 use line::Received;
 use line::Receiver;
-use recording::BlockAnswer;
+use line_block::BlockAnswer;
 ghost use mathlib.Core.Path.{_≡_};
 ghost use mathlib.Core.List.{_++_, map};
 ghost use Prim.Native.Nat.{_+_, _≤_};
@@ -90,7 +90,7 @@ pub extern "C" fn receive_line(input: &[u8], out: &mut [u8]) -> usize
 pub extern "C" fn read_line(input: &[u8], out: &mut [u8]) -> usize
     ensures { λ r. ⌜ outcome r (now (out .exit)) ≡ receivedLine (now (input .entry)) (now (out .entry)) ⌝ }
 {
-    let answer = recording::read_block(input, true, out);
+    let answer = line_block::read_block(input, true, out);
     match answer {
         BlockAnswer::Refused(_) => usize::MAX,
         BlockAnswer::Delivered {

@@ -13,14 +13,14 @@ use Rattle.line_terms.specs.Line.{byte}
 use Rattle.line_terms.specs.Places.{joined}
 use Rattle.line_terms.specs.Scan.{LineReading, scan}
 use Rattle.line.specs.Demand3.{Exactly}
-use Rattle.line.specs.Drain.{symbols}
-use Rattle.recording.specs.Block.{blockReading, delivered, blockRead}
-use Rattle.recording.specs.BlockLaws.{read-delivered}
-use Rattle.recording.specs.RestLaws.{rest-there}
-use Rattle.recording.specs.MoreLaws.{more-joined, more-count, more-kept}
+use Rattle.line_block.specs.Drain.{symbols}
+use Rattle.line_block.specs.Block.{blockReading, delivered, blockRead}
+use Rattle.line_block.specs.BlockLaws.{read-delivered}
+use Rattle.line_block.specs.RestLaws.{rest-there}
+use Rattle.recording.specs.ReadOnLaws.{more-joined, more-count, more-kept}
 use Rattle.recording.specs.Certain.{Due, due}
-use Rattle.recording.specs.declared.BlockAnswer.{BlockAnswer}
-use Rattle.recording.specs.declared.BlockAnswer.the-variants.{Refused, Delivered}
+use Rattle.line_block.specs.declared.BlockAnswer.{BlockAnswer}
+use Rattle.line_block.specs.declared.BlockAnswer.the-variants.{Refused, Delivered}
 
 -- A block of a line: the bytes that are new in it, whether the line has ended with them, the memory lent, the answer, and that memory as it
 -- stood then.

@@ -20,12 +20,12 @@ use Rattle.line_terms.specs.FoundFrames.{AllFrames, each-frame}
 use Rattle.line_terms.specs.ScanCertain.{found-certain, certain-found}
 use Rattle.line_terms.specs.Closed.{taken-found}
 use Rattle.line.specs.Demand3.{Exactly}
-use Rattle.line.specs.Drain.{symbols, readingFrom}
-use Rattle.recording.specs.Block.{blockReading, delivered, blockRead}
-use Rattle.recording.specs.BlockLaws.{read-delivered, rest-most}
-use Rattle.recording.specs.RestLaws.{rest-there}
-use Rattle.recording.specs.declared.BlockAnswer.{BlockAnswer}
-use Rattle.recording.specs.declared.BlockAnswer.the-variants.{Delivered}
+use Rattle.line_block.specs.Drain.{symbols, readingFrom}
+use Rattle.line_block.specs.Block.{blockReading, delivered, blockRead}
+use Rattle.line_block.specs.BlockLaws.{read-delivered, rest-most}
+use Rattle.line_block.specs.RestLaws.{rest-there}
+use Rattle.line_block.specs.declared.BlockAnswer.{BlockAnswer}
+use Rattle.line_block.specs.declared.BlockAnswer.the-variants.{Delivered}
 
 -- A frame is taken in a line: by the choice that keeps document 01's rule, of which there is exactly one.
 abbrev pub Taken : List Symbol → ℕ → List ℕ → Type 1

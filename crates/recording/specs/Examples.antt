@@ -9,9 +9,9 @@ use Rattle.frame.specs.Recognition.{recognised, recognisedBody, recognisedEnd}
 use Rattle.frame.specs.Examples.{caseA}
 use Rattle.line_terms.specs.Places.{joined}
 use Rattle.line_terms.specs.Scan.{scan, readingBy, before, begins, beforeSilence, broken, bytesBefore}
-use Rattle.line.specs.Drain.{symbols, readingFrom}
-use Rattle.recording.specs.Block.{blockReading, delivered, blockRead}
-use Rattle.recording.specs.declared.BlockAnswer.the-variants.{Refused, Delivered}
+use Rattle.line_block.specs.Drain.{symbols, readingFrom}
+use Rattle.line_block.specs.Block.{blockReading, delivered, blockRead}
+use Rattle.line_block.specs.declared.BlockAnswer.the-variants.{Refused, Delivered}
 
 -- Wake-up bytes and then A: 16 bytes of one frame, no rest, and the memory behind them as it was.
 behind-wake-up : blockRead (0xFE ∷ 0xFE ∷ 0xFE ∷ 0xFE ∷ caseA) false (replicate 22 7) ≡ outcome (Delivered 16 1 20) (caseA ++ replicate 6 7)

@@ -1,11 +1,6 @@
-pub mod Block
 pub mod Rest
-pub mod Skip
-pub mod SkipLaws
-pub mod BlockLaws
-pub mod RestLaws
 pub mod KeepLaws
-pub mod MoreLaws
+pub mod ReadOnLaws
 pub mod Certain
 pub mod Blocks
 pub mod Examples

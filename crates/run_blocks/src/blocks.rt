@@ -1,8 +1,8 @@
 // The line in blocks, each begun with the rest of the one before.
 ghost use Prim.Native.Nat.{_≤_, _<_};
 ghost use lib.ListN.{length};
+use line_block::BlockAnswer;
 use line_verdict::MOST_KEPT;
-use recording::BlockAnswer;
 use run_text::heard::Gathered;
 
 // What the blocks so far leave: how many bytes of their rest stand at the front of the block's buffer, and what is gathered.
@@ -45,7 +45,7 @@ fn read_filled(
     if out.len() < start {
         return spoilt();
     }
-    let answer = recording::read_block(&block[..n], ended, &mut out[start..]);
+    let answer = line_block::read_block(&block[..n], ended, &mut out[start..]);
     let BlockAnswer::Delivered {
         bytes,
         frames,
@@ -108,7 +108,7 @@ pub(crate) fn read_whole(line: &[u8], out: &mut [u8]) -> Gathered {
     if out.len() < n {
         return Gathered::spoilt();
     }
-    let answer = recording::read_block(line, true, &mut out[..n]);
+    let answer = line_block::read_block(line, true, &mut out[..n]);
     let BlockAnswer::Delivered {
         bytes,
         frames,

@@ -1,6 +1,6 @@
 // Calls that must refuse the first 300 bytes of the line, and leave the memory that is lent to them as it was.
+use line_block::BlockAnswer;
 use listing::block::BlockListed;
-use recording::BlockAnswer;
 use run_text::memory::FILL;
 use run_text::memory::is_filled;
 use run_text::write::write;
@@ -17,7 +17,7 @@ fn say_refused(number: u8, untouched: bool) {
 // Reads the block with memory for its frames, and writes whether that is refused.
 fn refuse_reading(words: &[u8], block: &[u8], out: &mut [u8]) {
     write(words);
-    let answer = recording::read_block(block, true, out);
+    let answer = line_block::read_block(block, true, out);
     let BlockAnswer::Refused(number) = answer else {
         write(b"not refused\n");
         return;

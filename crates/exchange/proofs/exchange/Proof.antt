@@ -13,7 +13,7 @@ use Rattle.reader.specs.Allowed.{isAllowed}
 use Rattle.reader.specs.Building.{requestFrame, requestBytes}
 use Rattle.reader.specs.Allowed as reader
 use Rattle.exchange.specs.Exchange.{Memories, memories, enough, exchanged}
-use Rattle.exchange.specs.EndToEnd.{EnoughMemory}
+use Rattle.exchange.specs.ExchangeTerms.{EnoughMemory}
 use Rattle.exchange.specs.ExchangeLaws.{enough-memory, built-puts, built-refuses, heard-puts, reply-within, carried-through, request-shape}
 use Rattle.laws.specs.Puts.{Puts, front-within, front-put}
 use Rattle.exchange.proofs.exchange.Statement.{statement}

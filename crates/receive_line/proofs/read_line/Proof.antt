@@ -2,7 +2,7 @@
 use mathlib.Core.Path.{_≡_, ap, sym, _∙_}
 use borrow.Author.Needs.{needs}
 use Rattle.laws.specs.Memory.{outcome}
-use Rattle.recording.specs.declared.BlockAnswer.{BlockAnswer}
+use Rattle.line_block.specs.declared.BlockAnswer.{BlockAnswer}
 use Rattle.receive_line.specs.WholeLine.{receivedLine}
 use Rattle.receive_line.specs.WholeLineLaws.{numberReturned, line-read}
 use Rattle.receive_line.proofs.read_line.Statement.{statement}

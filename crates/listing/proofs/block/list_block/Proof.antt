@@ -7,8 +7,8 @@ use borrow.Author.Needs.{needs}
 use lib.ListN.{length}
 use lib.Seq.{length-take-le}
 use Rattle.laws.specs.Memory.{outcome}
-use Rattle.recording.specs.declared.BlockAnswer.{BlockAnswer}
-use Rattle.recording.specs.BlockLaws.{BlockDelivers, read-delivers, delivers-within}
+use Rattle.line_block.specs.declared.BlockAnswer.{BlockAnswer}
+use Rattle.line_block.specs.BlockLaws.{BlockDelivers, read-delivers, delivers-within}
 use Rattle.listing.specs.BlockLaws.{short-refused, reading-refused, delivers-asked, delivers-listed}
 use Rattle.listing.proofs.block.list_block.Statement.{statement}
 use Rattle.listing.proofs.block.list_block.Tie as tie

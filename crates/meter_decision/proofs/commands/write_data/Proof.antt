@@ -12,7 +12,7 @@ use borrow.Rule.Slice.PartAt.{part-to-end}
 use types.Run.{OneOf}
 use denote.Enum.Declared.{tagOf}
 use Rattle.item_range.specs.Range.{within}
-use Rattle.item.specs.Content.{isAllowed}
+use Rattle.item.specs.Content.{contentIsAllowed}
 use Rattle.item.specs.Table.{itemOf, hasLength}
 use Rattle.item.specs.declared.content.Content.{Content}
 use Rattle.item.specs.declared.content.Content.the-variants.{Allowed, NotDecimal, OutOfRange}
@@ -120,13 +120,13 @@ value-length c = check-holds (has-authority (authority-of c)) (check-true _ (sym
 -- the value's content
 content-test : (c : tie.After-content-of) →
     let p = parse-of (item-of (writable-of (key-of (authority-of (c .before))))) in
-    hasContent (itemAsked (payload p)) (writtenValue (payload p)) ≡ isAllowed (c .content-of .result)
+    hasContent (itemAsked (payload p)) (writtenValue (payload p)) ≡ contentIsAllowed (c .content-of .result)
 unfolding writtenValue
 content-test c =
     let i = item-of (writable-of (key-of (authority-of (c .before)))) in
-    rw (listed i, ← part-to-end (payload (parse-of i)) 12) (ap isAllowed (sym (c .content-of .ensures)))
+    rw (listed i, ← part-to-end (payload (parse-of i)) 12) (ap contentIsAllowed (sym (c .content-of .ensures)))
 
-not-allowed : (content : Content) → OneOf (1 ∷ 2 ∷ []) (tagOf the-type content) → isAllowed content ≡ false
+not-allowed : (content : Content) → OneOf (1 ∷ 2 ∷ []) (tagOf the-type content) → contentIsAllowed content ≡ false
 not-allowed Allowed h = absurd (⊎-elim (λ e. omega arith) (λ e. omega arith) h)
 not-allowed (NotDecimal i) h = refl
 not-allowed OutOfRange h = refl
@@ -184,7 +184,7 @@ returns-8 : tie.Need-returns-8
 unfolding checksOf
 returns-8 c =
     let tested = c .before .before in
-    let allowed = content-test tested ∙ ap isAllowed (c .enum-told11 .given .1) in
+    let allowed = content-test tested ∙ ap contentIsAllowed (c .enum-told11 .given .1) in
     ap Write (sym (parsed (parse-of (item-of (writable-of (key-of (authority-of (tested .before)))))) .2))
     ∙ no-check-left (check-holds (value-length (tested .before)) allowed)
 

@@ -11,9 +11,9 @@ use Rattle.line_terms.specs.Line.{Symbol, byte, silence}
 use Rattle.line_terms.specs.Scan.{LineReading, bytesBefore, before, scan}
 use Rattle.line_terms.specs.BeginsLaws.{begins-open, unbroken}
 use Rattle.line_terms.specs.ScanLaws.{Scans, ends, covered, finds, stops, drops, scans}
-use Rattle.line.specs.Drain.{symbols, readingFrom}
-use Rattle.line.specs.DrainLaws.{reading-closed}
-use Rattle.recording.specs.Block.{blockReading}
+use Rattle.line_block.specs.Drain.{symbols, readingFrom}
+use Rattle.line_block.specs.DrainLaws.{reading-closed}
+use Rattle.line_block.specs.Block.{blockReading}
 
 -- The symbols from a place on are these bytes.
 record EndsWith (x : List Symbol) (kept : List ℕ) : Type 0 where

@@ -1,4 +1,4 @@
--- The invariant is the receiver's own law of draining, from the first place on. A byte that is not 68 is passed over with the stretch
+-- The invariant is the law of draining. A byte that is not 68 is passed over with the stretch
 -- behind it; any other place goes by what the bytes from there on begin with.
 use Prim.Native.Nat.{ℕ, _≤_, _+_, _-_}
 use mathlib.Core.Path.{_≡_, ap, sym, _∙_, subst}
@@ -14,14 +14,14 @@ use Rattle.laws.specs.Memory.{over}
 use Rattle.frame.specs.Recognition.{recognised}
 use Rattle.frame.specs.declared.Recognised.the-variants.{Whole}
 use Rattle.line_terms.specs.Scan.{beforeSilence}
-use Rattle.line.specs.DrainLaws.{Draining, draining-start, draining-next, draining-whole, draining-end, draining-open, draining-closed, whole-fits, whole-least}
-use Rattle.recording.specs.SkipLaws.{passes-one, passes-join, draining-passes}
-use Rattle.recording.specs.BlockLaws.{drained-read}
-use Rattle.recording.proofs.drain.Statement.{statement}
-use Rattle.recording.proofs.drain.Tie as tie
+use Rattle.line_block.specs.DrainLaws.{Draining, draining-start, draining-next, draining-whole, draining-closed, whole-fits, whole-least}
+use Rattle.line_block.specs.SkipLaws.{passes-one, passes-join, draining-passes}
+use Rattle.line_block.specs.BlockLaws.{end-read, open-read}
+use Rattle.line_block.proofs.drain.Statement.{statement}
+use Rattle.line_block.proofs.drain.Tie as tie
 
 abbrev Inv-loop : tie.InvT-loop
-Inv-loop block ended out₀ n at₀ written₀ frames₀ out at written frames = Draining block 0 ended out₀ out at written frames
+Inv-loop block ended out₀ n at₀ written₀ frames₀ out at written frames = Draining block ended out₀ out at written frames
 
 abbrev μ-loop : tie.MeasureT-loop
 μ-loop block ended out₀ n at₀ written₀ frames₀ out at written frames = length block - at
@@ -46,13 +46,13 @@ whole c = sym (seen (c .before .before .before)) ∙ c .before .found .given .1
 fits : (c : tie.After-known-told Inv-loop μ-loop) →
     let l = c .before .before .before .before .before .before .before .before in
     l .loop .at + size c ≤ length (l .before .before .before .args .block .now)
-fits c = whole-fits _ _ _ _ _ _ _ _ (c .before .before .before .before .before .before .before .before .loop .inv) (size c) (whole c)
+fits c = whole-fits _ _ _ _ _ _ _ (c .before .before .before .before .before .before .before .before .loop .inv) (size c) (whole c)
 
 least : (c : tie.After-known-told Inv-loop μ-loop) → 12 ≤ size c
-least c = whole-least _ _ _ _ _ _ _ _ (c .before .before .before .before .before .before .before .before .loop .inv) (size c) (whole c)
+least c = whole-least _ _ _ _ _ _ _ (c .before .before .before .before .before .before .before .before .loop .inv) (size c) (whole c)
 
 loop-holds : tie.Need-loop-holds Inv-loop μ-loop
-loop-holds c = draining-start _ _ _ _ (omega arith)
+loop-holds c = draining-start _ _ _
 
 shared-slice-read-if1 : tie.Need-shared-slice-read-if1 Inv-loop μ-loop
 shared-slice-read-if1 c = search needs
@@ -144,9 +144,9 @@ loop-again-2 c =
     let same : l .loop .at + n - l .loop .at ≡ n = omega arith in
     let e : c .before .before .copy .last .1 .0 ≡ over (take n rest) part =
     c .before .before .copy .ensures .1 ∙ copied (take (l .loop .at + n - l .loop .at) rest) part ∙ ap (λ (i : ℕ). over (take i rest) part) same in
-    subst (λ (y : List ℕ). Draining (a .block .now) 0 (a .ended) (a .out .now) (putMid (l .loop .written) (length (l .loop .out) - l .loop .written) (l .loop .out) y) (l .loop .at + n) (l .loop .written + n) (l .loop .frames + 1))
+    subst (λ (y : List ℕ). Draining (a .block .now) (a .ended) (a .out .now) (putMid (l .loop .written) (length (l .loop .out) - l .loop .written) (l .loop .out) y) (l .loop .at + n) (l .loop .written + n) (l .loop .frames + 1))
     (sym e)
-    (draining-whole _ _ _ _ _ _ _ _ (l .loop .inv) n (whole k) (l .before .before .before .pre))
+    (draining-whole _ _ _ _ _ _ _ (l .loop .inv) n (whole k) (l .before .before .before .pre))
 
 enum-told : tie.Need-enum-told Inv-loop μ-loop
 enum-told c = search needs
@@ -158,8 +158,7 @@ returns : tie.Need-returns Inv-loop μ-loop
 returns c =
     let r = c .before .before .before in
     let l = r .before .before .before .before .before in
-    drained-read _ _ _ _ _ _ _ (l .before .before .before .pre)
-    (draining-open _ _ _ _ _ _ _ _ (l .loop .inv) (not-true _ (c .if2 .taken)) (sym (seen r) ∙ c .before .enum-told .given .1))
+    open-read _ _ _ _ _ _ _ (l .loop .inv) (l .before .before .before .pre) (not-true _ (c .if2 .taken)) (sym (seen r) ∙ c .before .enum-told .given .1)
 
 add-at-2 : tie.Need-add-at-2 Inv-loop μ-loop
 add-at-2 c = search needs
@@ -171,7 +170,7 @@ loop-again-3 : tie.Need-loop-again-3 Inv-loop μ-loop
 loop-again-3 c =
     let r = c .before .before .before in
     let l = r .before .before .before .before .before in
-    draining-closed _ _ _ _ _ _ _ _ (l .loop .inv) (omega arith) (not-false _ (c .if2 .left)) (sym (seen r) ∙ c .before .enum-told .given .1)
+    draining-closed _ _ _ _ _ _ _ (l .loop .inv) (omega arith) (not-false _ (c .if2 .left)) (sym (seen r) ∙ c .before .enum-told .given .1)
 
 enum-told-2 : tie.Need-enum-told-2 Inv-loop μ-loop
 enum-told-2 c = search needs
@@ -187,13 +186,13 @@ unfolding beforeSilence
 loop-again-4 c =
     let r = c .before .before in
     let l = r .before .before .before .before .before in
-    draining-next _ _ _ _ _ _ _ _ (l .loop .inv) (omega arith) (ap (beforeSilence _) (sym (seen r) ∙ c .enum-told2 .given .1))
+    draining-next _ _ _ _ _ _ _ (l .loop .inv) (omega arith) (ap (beforeSilence _) (sym (seen r) ∙ c .enum-told2 .given .1))
 
 same-length-2 : tie.Need-same-length-2 Inv-loop μ-loop
 same-length-2 c = search needs
 
 returns-2 : tie.Need-returns-2 Inv-loop μ-loop
-returns-2 c = drained-read _ _ _ _ _ _ _ (omega arith) (draining-end _ _ _ _ _ _ _ _ (c .before .loop .inv) (c .loop-test .left))
+returns-2 c = end-read _ _ _ _ _ _ _ (c .before .loop .inv) (omega arith) (c .loop-test .left)
 
 pub drain-spec : {M : Type 1} → statement M
 drain-spec =

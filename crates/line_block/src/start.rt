@@ -2,7 +2,7 @@
 ghost use Prim.Native.Nat.{_+_, _≤_};
 ghost use mathlib.Core.Path.{_≡_};
 ghost use lib.ListN.{length};
-ghost use Rattle.recording.specs.Skip.{Passes};
+ghost use Rattle.line_block.specs.Skip.{Passes};
 ghost use mathlib.Core.Bool.{true};
 
 // Whether no 68 stands among the `width` bytes from `at` on; what is promised is that it never says so wrongly. Every byte is
@@ -37,25 +37,17 @@ fn pass_clear(line: &[u8], from: usize, width: usize) -> usize
     at
 }
 
-// Eight places on, or the end where that is nearer.
-fn near_end(from: usize, end: usize) -> usize
-    requires { ⌜ from ≤ end ⌝ }
-    ensures { λ r. ⌜ (from ≤ r) × (r ≤ end) ⌝ }
-{
-    if 8 < end - from {
-        return from + 8;
-    }
-    end
-}
-
 // The first place from `from` on where a 68 stands, or the end; what is promised is that no 68 is passed over. A start is mostly
-// near, behind wake-up bytes.
+// near, behind wake-up bytes. Where fewer than 16 bytes are left nothing is passed over.
 pub(crate) fn next_start(line: &[u8], from: usize) -> usize
     requires { ⌜ from ≤ length (now line) ⌝ }
     ensures { λ r. ⌜ Passes (now (line .entry)) from r ⌝ }
 {
     let n = line.len();
-    let near = near_end(from, n);
+    if n - from < 16 {
+        return from;
+    }
+    let near = from + 8;
     let at = bytes::scan::find(line, from, near, 0x68);
     if at < near {
         return at;

@@ -4,10 +4,10 @@ use mathlib.Core.Path.{_≡_, refl, ap, sym, _∙_}
 use mathlib.Core.List.{List, [], _∷_, _++_, append-nil, append-assoc}
 use mathlib.Core.Bool.{Bool, true, false}
 use native.Mathlib.Omega.{arith}
-use native.Mathlib.Nat.{le-refl, sub-zero, zero-sub, suc-sub-suc, not-suc-le-zero, le-of-suc-le-suc, add-zero, add-suc, suc-add}
+use native.Mathlib.Nat.{not-suc-le-zero, le-of-suc-le-suc, add-zero, add-suc, suc-add}
 use native.Mathlib.Numerals.{add-one, sub-one}
-use lib.ListN.{length, take, drop, length-append, length-drop, drop-of-length-le}
-use lib.Seq.{take-nil, drop-drop, length-take-le}
+use lib.ListN.{length, take, drop, length-append, length-drop}
+use lib.Seq.{drop-drop, length-take-le}
 use Rattle.laws.specs.Memory.{over}
 use Rattle.laws.specs.MemoryLaws.{over-length, lent-over}
 use Rattle.frame.specs.Recognition.{recognised}
@@ -18,8 +18,7 @@ use Rattle.line_terms.specs.Line.{byte}
 use Rattle.line_terms.specs.Places.{Found, joined}
 use Rattle.line_terms.specs.PlaceLaws.{joined-append}
 use Rattle.line_terms.specs.Scan.{LineReading, scan, begins, bytesBefore, broken, beforeSilence, readingBy, before}
-use Rattle.line.specs.Drain.{symbols, readingFrom, behind, Drains, Rescans}
-use Rattle.line.specs.declared.drain.Drained.{Drained}
+use Rattle.line_block.specs.Drain.{symbols, readingFrom, behind}
 
 symbols-bytes : (x : List ℕ) (c : Bool) → bytesBefore (symbols x c) ≡ x
 unfolding symbols bytesBefore
@@ -123,10 +122,9 @@ reading-closed p x = scan-closed x p 0
 
 -- How far draining has come: the frames found so far stand over the front of the memory and are counted, and the reading is they and
 -- then the reading from `at` on. No more bytes are written than were passed.
-pub record Draining (line : List ℕ) (start : ℕ) (closed : Bool) (m₀ m : List ℕ) (at written count : ℕ) : Type 0 where
+pub record Draining (line : List ℕ) (closed : Bool) (m₀ m : List ℕ) (at written count : ℕ) : Type 0 where
   pub found : List Found
-  pub split : readingFrom start (drop start line) closed ≡ behind found (readingFrom at (drop at line) closed)
-  pub later : start ≤ at
+  pub split : readingFrom 0 line closed ≡ behind found (readingFrom at (drop at line) closed)
   pub within : at ≤ length line
   pub memory : m ≡ over (joined found) m₀
   pub bytes : written ≡ length (joined found)
@@ -136,15 +134,13 @@ pub record Draining (line : List ℕ) (start : ℕ) (closed : Bool) (m₀ m : Li
   pub size : length m ≡ length m₀
 
 -- Before the first turn nothing is found.
-pub draining-start : (line : List ℕ) (start : ℕ) (closed : Bool) (m : List ℕ) → start ≤ length line →
-    Draining line start closed m m start 0 0
+pub draining-start : (line : List ℕ) (closed : Bool) (m : List ℕ) → Draining line closed m m 0 0 0
 unfolding behind joined
-draining-start line start closed m h =
+draining-start line closed m =
     record {
       found = [];
       split = refl;
-      later = le-refl start;
-      within = h;
+      within = zero-le;
       memory = refl;
       bytes = refl;
       frames = refl;
@@ -152,13 +148,6 @@ draining-start line start closed m h =
       few = zero-le;
       size = refl;
     }
-
--- A part between two places, as the front of what follows the first or as what follows the first in a front.
-pub part-of-front : (a n : ℕ) (l : List ℕ) → take (n - a) (drop a l) ≡ drop a (take n l)
-part-of-front zero n l = rw sub-zero
-part-of-front (suc a) zero l = rw zero-sub
-part-of-front (suc a) (suc n) [] = rw take-nil
-part-of-front (suc a) (suc n) (x ∷ l) = rw suc-sub-suc (part-of-front a n l)
 
 -- A frame found is one more behind those found before.
 behind-more : (fs : List Found) (p : ℕ) (f : List ℕ) (r : LineReading) →
@@ -170,15 +159,14 @@ joined-more : (fs : List Found) (p : ℕ) (f : List ℕ) → joined (fs ++ (reco
 unfolding joined
 joined-more fs p f = joined-append fs (record { place = p; frame = f } ∷ []) ∙ ap (λ (l : List ℕ). joined fs ++ l) (append-nil f)
 
-module _ (line : List ℕ) (start : ℕ) (closed : Bool) (m₀ m : List ℕ) (at written count : ℕ) (d : Draining line start closed m₀ m at written count) where
+module _ (line : List ℕ) (closed : Bool) (m₀ m : List ℕ) (at written count : ℕ) (d : Draining line closed m₀ m at written count) where
   -- A turn that drops a byte.
-  pub draining-next : at < length line → beforeSilence closed (recognised (drop at line)) ≡ Neither → Draining line start closed m₀ m (at + 1) written count
+  pub draining-next : at < length line → beforeSilence closed (recognised (drop at line)) ≡ Neither → Draining line closed m₀ m (at + 1) written count
   draining-next h e =
       let some : 0 < length (drop at line) = simp length-drop (omega arith) in
       record {
         found = d .found;
         split = d .split ∙ ap (behind (d .found)) (reading-neither at (drop at line) closed some e ∙ ap (λ (l : List ℕ). readingFrom (at + 1) l closed) (drop-drop 1 at line));
-        later = let l : start ≤ at = d .later in omega arith;
         within = omega arith;
         memory = d .memory;
         bytes = d .bytes;
@@ -204,7 +192,7 @@ module _ (line : List ℕ) (start : ℕ) (closed : Bool) (m₀ m : List ℕ) (at
 
     -- A turn that delivers a frame.
     pub draining-whole : length line ≤ length m₀ →
-        Draining line start closed m₀
+        Draining line closed m₀
         (take written m ++ (over (take k (drop at line)) (take (length m - written) (drop written m)) ++ drop (length m - written) (drop written m)))
         (at + k) (written + k) (count + 1)
     draining-whole roomy =
@@ -221,7 +209,6 @@ module _ (line : List ℕ) (start : ℕ) (closed : Bool) (m₀ m : List ℕ) (at
         record {
           found = fs;
           split = d .split ∙ ap (behind (d .found)) (reading-whole at k (drop at line) closed e ∙ ap (λ (l : List ℕ). before at f (readingFrom (at + k) l closed)) (drop-drop k at line)) ∙ behind-more (d .found) at f (readingFrom (at + k) (drop (at + k) line) closed);
-          later = let l : start ≤ at = d .later in omega arith;
           within = fits;
           memory = now;
           bytes = sym size;
@@ -231,54 +218,7 @@ module _ (line : List ℕ) (start : ℕ) (closed : Bool) (m₀ m : List ℕ) (at
           size = ap length now ∙ over-length (joined fs) m₀ (omega arith);
         }
 
-  -- At the end, or at a place that may still become a frame, the line is drained.
-  draining-done : readingFrom at (drop at line) closed ≡ record { frames = []; kept = drop at line } →
-      Drains line start closed m₀ m (record { at = at; bytes = written; frames = count })
-  unfolding behind
-  draining-done e =
-      let s : readingFrom start (drop start line) closed ≡ record { frames = d .found ++ []; kept = drop at line } = d .split ∙ ap (behind (d .found)) e in
-      let t : readingFrom start (drop start line) closed .frames ≡ d .found = ap (λ (r : LineReading). r .frames) s ∙ append-nil (d .found) in
-      record {
-        later = d .later;
-        within = d .within;
-        rest = sym (ap (λ (r : LineReading). r .kept) s);
-        memory = rw t (d .memory);
-        bytes = rw t (d .bytes);
-        frames = rw t (d .frames);
-      }
-
-  -- At the end the line is drained.
-  pub draining-end : length line ≤ at → Drains line start closed m₀ m (record { at = at; bytes = written; frames = count })
-  draining-end h =
-      let none : drop at line ≡ [] = drop-of-length-le line h in
-      draining-done (rw none (reading-end at closed))
-
-  -- At a place that may still become a frame, with no silence behind it, the line is drained.
-  pub draining-open : closed ≡ false → recognised (drop at line) ≡ Open → Drains line start closed m₀ m (record { at = at; bytes = written; frames = count })
-  draining-open f e = draining-done (ap (readingFrom at (drop at line)) f ∙ reading-open at (drop at line) e)
-
   -- A turn that gives up an unfinished frame before a silence.
-  pub draining-closed : at < length line → closed ≡ true → recognised (drop at line) ≡ Open → Draining line start closed m₀ m (at + 1) written count
+  pub draining-closed : at < length line → closed ≡ true → recognised (drop at line) ≡ Open → Draining line closed m₀ m (at + 1) written count
   unfolding beforeSilence
   draining-closed h t e = draining-next h (rw (e, t))
-
--- Draining bytes that begin no frame from the second on and keeping the rest reads them.
-pub drained-rescans : (kept kept₁ line m m₁ : List ℕ) (count b : ℕ) (r : Drained) →
-    take (count + 1) line ≡ take count kept ++ (b ∷ []) → recognised (take count kept ++ (b ∷ [])) ≡ Neither →
-    Drains (take (count + 1) line) 1 false m m₁ r → kept₁ ≡ over (take (count + 1 - r .at) (drop (r .at) line)) kept → count + 1 ≤ length line →
-    Rescans (readingFrom 0 (take count kept ++ (b ∷ [])) false) kept kept₁ m m₁ (record { count = count + 1 - r .at; bytes = r .bytes; frames = r .frames })
-unfolding beforeSilence
-drained-rescans kept kept₁ line m m₁ count b r e n d k h =
-    let y : List ℕ = take count kept ++ (b ∷ []) in
-    let some : 0 < length y = simp length-append (omega arith) in
-    let one : readingFrom 0 y false ≡ readingFrom 1 (drop 1 y) false = reading-neither 0 y false some (ap (beforeSilence false) n) in
-    let same : readingFrom 1 (drop 1 (take (count + 1) line)) false ≡ readingFrom 0 y false = ap (λ (l : List ℕ). readingFrom 1 (drop 1 l) false) e ∙ sym one in
-    let rest : take (count + 1 - r .at) (drop (r .at) line) ≡ readingFrom 0 y false .kept = part-of-front (r .at) (count + 1) line ∙ d .rest ∙ ap (λ (q : LineReading). q .kept) same in
-    let long : length (take (count + 1) line) ≡ count + 1 = length-take-le (count + 1) line h in
-    record {
-      rest = k ∙ ap (λ (l : List ℕ). over l kept) rest;
-      count = sym (ap length (sym rest ∙ part-of-front (r .at) (count + 1) line) ∙ length-drop (r .at) (take (count + 1) line) ∙ ap (λ (i : ℕ). i - r .at) long);
-      memory = rw same at (d .memory);
-      bytes = rw same at (d .bytes);
-      frames = rw same at (d .frames);
-    }

@@ -1,13 +1,13 @@
 -- The invariant: no 68 stands at the places passed; a stretch that is clear is passed with them.
-use Rattle.recording.specs.Skip.{Passes}
-use Rattle.recording.specs.SkipLaws.{passes-none, passes-join}
+use Rattle.line_block.specs.Skip.{Passes}
+use Rattle.line_block.specs.SkipLaws.{passes-none, passes-join}
 use Prim.Native.Nat.{_-_}
 use native.Mathlib.Omega.{arith}
 use borrow.Author.Needs.{needs}
 use borrow.Author.Tests.{not-false}
 use lib.ListN.{length}
-use Rattle.recording.proofs.start.pass_clear.Statement.{statement}
-use Rattle.recording.proofs.start.pass_clear.Tie as tie
+use Rattle.line_block.proofs.start.pass_clear.Statement.{statement}
+use Rattle.line_block.proofs.start.pass_clear.Tie as tie
 
 abbrev Inv-loop : tie.InvT-loop
 Inv-loop line from width at₀ at = Passes line from at

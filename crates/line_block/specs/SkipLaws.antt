@@ -14,8 +14,8 @@ use Rattle.frame.specs.Recognition.{recognised}
 use Rattle.frame.specs.RecognitionLaws.{other-start}
 use Rattle.frame.specs.declared.Recognised.the-variants.{Neither}
 use Rattle.line_terms.specs.Scan.{beforeSilence}
-use Rattle.line.specs.DrainLaws.{Draining, draining-next}
-use Rattle.recording.specs.Skip.{Passes}
+use Rattle.line_block.specs.DrainLaws.{Draining, draining-next}
+use Rattle.line_block.specs.Skip.{Passes}
 
 -- Nothing is passed over before the first step.
 pub passes-none : (line : List ℕ) (at : ℕ) → at ≤ length line → Passes line at at
@@ -70,17 +70,17 @@ find-passes line from to r h e l = record { later = omega arith; within = omega 
 
 -- Draining goes on behind a byte that is not 68, and behind a stretch that is passed over.
 module _ {line : List ℕ} {closed : Bool} {m₀ m : List ℕ} {written count : ℕ} where
-  draining-other : {at : ℕ} → Draining line 0 closed m₀ m at written count → at < length line → (getD line at 0 ≡ 0x68 → ⊥) →
-      Draining line 0 closed m₀ m (at + 1) written count
+  draining-other : {at : ℕ} → Draining line closed m₀ m at written count → at < length line → (getD line at 0 ≡ 0x68 → ⊥) →
+      Draining line closed m₀ m (at + 1) written count
   unfolding beforeSilence
   draining-other {at} d h n =
       let some : 0 < length (drop at line) = simp length-drop (omega arith) in
       let first : getD (drop at line) 0 0 ≡ getD line at 0 = getD-drop at line 0 0 ∙ rw add-zero in
       let none : recognised (drop at line) ≡ Neither = other-start (drop at line) some (λ w. n (sym first ∙ w)) in
-      draining-next line 0 closed m₀ m at written count d h (ap (beforeSilence closed) none)
+      draining-next line closed m₀ m at written count d h (ap (beforeSilence closed) none)
 
-  draining-on : (k : ℕ) {at : ℕ} → Draining line 0 closed m₀ m at written count → Passes line at (at + k) →
-      Draining line 0 closed m₀ m (at + k) written count
+  draining-on : (k : ℕ) {at : ℕ} → Draining line closed m₀ m at written count → Passes line at (at + k) →
+      Draining line closed m₀ m (at + k) written count
   draining-on zero d p = rw add-zero d
   draining-on (suc k) {at} d p =
       let same : at + suc k ≡ at + 1 + k = omega arith in
@@ -89,10 +89,10 @@ module _ {line : List ℕ} {closed : Bool} {m₀ m : List ℕ} {written count : 
       (draining-on k (draining-other d (omega arith) (p .none at (omega arith) (omega arith)))
       (record { later = omega arith; within = omega arith; none = λ i a b. p .none i (omega arith) (omega arith) }))
 
-  pub draining-passes : {at to : ℕ} → Draining line 0 closed m₀ m at written count → Passes line at to →
-      Draining line 0 closed m₀ m to written count
+  pub draining-passes : {at to : ℕ} → Draining line closed m₀ m at written count → Passes line at to →
+      Draining line closed m₀ m to written count
   draining-passes {at} {to} d p =
       let l : at ≤ to = p .later in
       let k : at + (to - at) ≡ to = omega arith in
-      subst (λ (n : ℕ). Draining line 0 closed m₀ m n written count) k
+      subst (λ (n : ℕ). Draining line closed m₀ m n written count) k
       (draining-on (to - at) d (subst (λ (n : ℕ). Passes line at n) (sym k) p))

@@ -9,8 +9,8 @@ use Rattle.line_terms.specs.Places.{joined}
 use Rattle.line_terms.specs.PlaceLaws.{joined-append}
 use Rattle.line_terms.specs.Scan.{scan}
 use Rattle.line_terms.specs.ScanLaws.{More, more, place-joined, place-count, place-kept}
-use Rattle.line.specs.Drain.{symbols, readingFrom}
-use Rattle.recording.specs.Block.{blockReading}
+use Rattle.line_block.specs.Drain.{symbols, readingFrom}
+use Rattle.line_block.specs.Block.{blockReading}
 
 -- The symbols of bytes joined.
 symbols-append : (a b : List ℕ) (ended : Bool) → symbols (a ++ b) ended ≡ map byte a ++ symbols b ended

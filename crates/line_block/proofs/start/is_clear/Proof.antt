@@ -1,6 +1,6 @@
 -- The invariant: as long as no 68 was seen, none stands at the places looked at.
-use Rattle.recording.specs.Skip.{Passes}
-use Rattle.recording.specs.SkipLaws.{passes-none, passes-join, passes-one}
+use Rattle.line_block.specs.Skip.{Passes}
+use Rattle.line_block.specs.SkipLaws.{passes-none, passes-join, passes-one}
 use Prim.Native.Nat.{ℕ, _≤_, _+_, _-_}
 use mathlib.Core.Path.{_≡_, sym, _∙_}
 use mathlib.Core.Logic.{⊎-elim}
@@ -8,8 +8,8 @@ use mathlib.Core.Bool.{Bool, true, false}
 use native.Mathlib.Omega.{arith}
 use native.Mathlib.Nat.{add-zero}
 use borrow.Author.Needs.{needs}
-use Rattle.recording.proofs.start.is_clear.Statement.{statement}
-use Rattle.recording.proofs.start.is_clear.Tie as tie
+use Rattle.line_block.proofs.start.is_clear.Statement.{statement}
+use Rattle.line_block.proofs.start.is_clear.Tie as tie
 
 abbrev Inv-loop : tie.InvT-loop
 Inv-loop line at width clear₀ i₀ clear i = (i ≤ width) × (clear ≡ true → Passes line at (at + i))

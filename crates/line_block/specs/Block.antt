@@ -9,9 +9,9 @@ use Rattle.laws.specs.Test.{pick}
 use Rattle.frame.specs.Refusals.{shortMemory}
 use Rattle.line_terms.specs.Places.{joined}
 use Rattle.line_terms.specs.Scan.{LineReading}
-use Rattle.line.specs.Drain.{readingFrom}
-use Rattle.recording.specs.declared.BlockAnswer.{BlockAnswer}
-use Rattle.recording.specs.declared.BlockAnswer.the-variants.{Refused, Delivered}
+use Rattle.line_block.specs.Drain.{readingFrom}
+use Rattle.line_block.specs.declared.BlockAnswer.{BlockAnswer}
+use Rattle.line_block.specs.declared.BlockAnswer.the-variants.{Refused, Delivered}
 
 -- What the bytes of a block read as; where the line has ended with them, with a silence behind them.
 unfoldable pub blockReading : List ℕ → Bool → LineReading

@@ -3,22 +3,26 @@ use Prim.Native.Nat.{ℕ, _+_, _-_, _≤_, _<_}
 use native.Mathlib.Omega.{arith}
 use mathlib.Core.Path.{_≡_, ap, sym, _∙_}
 use mathlib.Core.Bool.{Bool, true, false}
-use mathlib.Core.List.{List, [], _∷_, _++_, map}
-use lib.ListN.{length, take, length-take, length-drop}
+use mathlib.Core.List.{List, [], _∷_, _++_, map, append-nil}
+use lib.ListN.{length, take, drop, length-take, length-drop, drop-of-length-le}
 use lib.Seq.{take-at}
 use lib.Dec.{leb}
 use borrow.Author.Tests.{le-leb, lt-leb, leb-true, leb-false}
 use Rattle.laws.specs.Memory.{Outcome, outcome, over}
 use Rattle.laws.specs.TestLaws.{pick-cases}
+use Rattle.frame.specs.Recognition.{recognised}
 use Rattle.frame.specs.RecognitionLaws.{open-most}
+use Rattle.frame.specs.declared.Recognised.the-variants.{Open}
 use Rattle.line_terms.specs.Line.{byte, silence}
-use Rattle.line_terms.specs.Places.{joined}
+use Rattle.line_terms.specs.Places.{Found, joined}
+use Rattle.line_terms.specs.Scan.{LineReading}
 use Rattle.line_terms.specs.ScanLaws.{scan-kept-open}
 use Rattle.line_terms.specs.FramesFew.{bytes-in, bytes-in-closed, frames-few}
-use Rattle.line.specs.Drain.{symbols, readingFrom, Drains}
-use Rattle.recording.specs.Block.{blockReading, delivered, blockRead}
-use Rattle.recording.specs.declared.BlockAnswer.{BlockAnswer}
-use Rattle.recording.specs.declared.BlockAnswer.the-variants.{Refused, Delivered}
+use Rattle.line_block.specs.Drain.{symbols, readingFrom, behind}
+use Rattle.line_block.specs.DrainLaws.{Draining, reading-end, reading-open}
+use Rattle.line_block.specs.Block.{blockReading, delivered, blockRead}
+use Rattle.line_block.specs.declared.BlockAnswer.{BlockAnswer}
+use Rattle.line_block.specs.declared.BlockAnswer.the-variants.{Refused, Delivered}
 
 -- Too little memory is refused with 1.
 pub read-refused : (block m : List ℕ) (ended : Bool) → length m < length block → outcome (Refused 1) m ≡ blockRead block ended m
@@ -31,19 +35,32 @@ pub read-delivered : (block m : List ℕ) (ended : Bool) → length block ≤ le
 unfolding blockRead
 read-delivered block m ended h = rw (le-leb _ _ h)
 
--- What draining a whole block has done is what reading it answers.
-pub drained-read : (block m₀ m : List ℕ) (ended : Bool) (at bytes frames : ℕ) → length block ≤ length m₀ →
-    Drains block 0 ended m₀ m (record { at = at; bytes = bytes; frames = frames }) →
-    outcome (Delivered bytes frames at) m ≡ blockRead block ended m₀
-unfolding blockReading delivered
-drained-read block m₀ m ended at bytes frames h d =
-    let within : at ≤ length block = d .within in
-    let long : length block - at ≡ length (readingFrom 0 block ended .kept) = sym (length-drop at block) ∙ ap length (d .rest) in
-    let rest : at ≡ length block - length (readingFrom 0 block ended .kept) = omega arith in
-    let b : bytes ≡ length (joined (readingFrom 0 block ended .frames)) = d .bytes in
-    let f : frames ≡ length (readingFrom 0 block ended .frames) = d .frames in
-    let o : m ≡ over (joined (readingFrom 0 block ended .frames)) m₀ = d .memory in
-    (λ i. outcome (Delivered (b i) (f i) (rest i)) (o i)) ∙ sym (read-delivered block m₀ ended h)
+module _ (block : List ℕ) (ended : Bool) (m₀ m : List ℕ) (at written count : ℕ) (d : Draining block ended m₀ m at written count)
+    (h : length block ≤ length m₀) where
+  -- Where nothing is found from a place on and all from there is kept, draining up to there is what reading the block answers.
+  drained-read : readingFrom at (drop at block) ended ≡ record { frames = []; kept = drop at block } →
+      outcome (Delivered written count at) m ≡ blockRead block ended m₀
+  unfolding behind blockReading delivered
+  drained-read e =
+      let s : readingFrom 0 block ended ≡ record { frames = d .found ++ []; kept = drop at block } = d .split ∙ ap (behind (d .found)) e in
+      let t : d .found ≡ readingFrom 0 block ended .frames = sym (ap (λ (r : LineReading). r .frames) s ∙ append-nil (d .found)) in
+      let within : at ≤ length block = d .within in
+      let long : length block - at ≡ length (readingFrom 0 block ended .kept) = sym (length-drop at block) ∙ ap (λ (r : LineReading). length (r .kept)) (sym s) in
+      let rest : at ≡ length block - length (readingFrom 0 block ended .kept) = omega arith in
+      let b = d .bytes ∙ ap (λ (l : List Found). length (joined l)) t in
+      let f = d .frames ∙ ap (λ (l : List Found). length l) t in
+      let o = d .memory ∙ ap (λ (l : List Found). over (joined l) m₀) t in
+      (λ i. outcome (Delivered (b i) (f i) (rest i)) (o i)) ∙ sym (read-delivered block m₀ ended h)
+
+  -- At the end of the block.
+  pub end-read : length block ≤ at → outcome (Delivered written count at) m ≡ blockRead block ended m₀
+  end-read l =
+      let none : drop at block ≡ [] = drop-of-length-le block l in
+      drained-read (rw none (reading-end at ended))
+
+  -- At a place that may still become a frame, with no silence behind the block.
+  pub open-read : ended ≡ false → recognised (drop at block) ≡ Open → outcome (Delivered written count at) m ≡ blockRead block ended m₀
+  open-read f e = drained-read (ap (readingFrom at (drop at block)) f ∙ reading-open at (drop at block) e)
 
 -- The frames of a block have no more bytes than the block.
 pub block-few : (block : List ℕ) (ended : Bool) → length (joined (blockReading block ended .frames)) ≤ length block
@@ -73,6 +90,13 @@ read-delivers block ended m₀ m bytes frames rest =
     let a = ap (λ (o : Outcome BlockAnswer). o .answer) e in
     record { roomy = leb-true _ _ t; memory = ap (λ (o : Outcome BlockAnswer). o .memory) e; size = cc; place = cc })
     (λ t e. let a = ap (λ (o : Outcome BlockAnswer). o .answer) e in let z : _≡_ {A = ℕ} 0 1 = cc in absurd (omega arith))
+
+-- And it counts its frames.
+pub read-counts : (block : List ℕ) (ended : Bool) (m₀ m : List ℕ) (bytes frames rest : ℕ) →
+    outcome (Delivered bytes frames rest) m ≡ blockRead block ended m₀ → frames ≡ length (blockReading block ended .frames)
+unfolding delivered
+read-counts block ended m₀ m bytes frames rest e =
+    let a = ap (λ (o : Outcome BlockAnswer). o .answer) (e ∙ read-delivered block m₀ ended (read-delivers block ended m₀ m bytes frames rest e .roomy)) in cc
 
 -- What the reading of a block has done that is refused.
 pub record Declines (block m₀ m : List ℕ) (n : ℕ) : Type 0 where

@@ -1,8 +1,8 @@
 -- Too little memory is refused; else draining the block is all.
 use borrow.Author.Needs.{needs}
-use Rattle.recording.specs.BlockLaws.{read-refused}
-use Rattle.recording.proofs.read_block.Statement.{statement}
-use Rattle.recording.proofs.read_block.Tie as tie
+use Rattle.line_block.specs.BlockLaws.{read-refused}
+use Rattle.line_block.proofs.read_block.Statement.{statement}
+use Rattle.line_block.proofs.read_block.Tie as tie
 
 returns : tie.Need-returns
 returns c = read-refused _ _ _ (c .if1 .taken)

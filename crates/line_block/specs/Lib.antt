@@ -1,0 +1,7 @@
+pub mod Drain
+pub mod DrainLaws
+pub mod Block
+pub mod BlockLaws
+pub mod Skip
+pub mod SkipLaws
+pub mod RestLaws
