@@ -22,15 +22,15 @@ use Rattle.reader.specs.declared.Request.{Request}
 use Rattle.reader.specs.AllowedWords.{AllowedInWords, allowed-words}
 use mathlib.Core.Logic.{_↔_}
 
--- A reply to an allowed request is judged.
-pub allowed-judged : (request : Request) → isAllowed request ≡ true → isJudged request ≡ true
-unfolding isJudged
-allowed-judged request h = h
-
 -- A reply is judged exactly if document 01 allows its request.
 pub judged-words : (request : Request) → RequestSized request → (isJudged request ≡ true) ↔ AllowedInWords (request .action) request
 unfolding isJudged
 judged-words request sized = allowed-words request sized
+
+-- A reply to an allowed request is judged.
+pub allowed-judged : (request : Request) → isAllowed request ≡ true → isJudged request ≡ true
+unfolding isJudged
+allowed-judged request h = h
 
 -- Of data that stand in a frame, what is behind the identifier fits into 196 bytes.
 module _ (identifier : ℕ) (from payload m : List ℕ) (few : length payload ≤ 200) (room : 196 ≤ length m) where
