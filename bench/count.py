@@ -1,8 +1,9 @@
 """Prints the instructions a byte that callgrind counts within each reader's own function, on each input, and the count
 of each proved reader divided by those of the readers in C beside it."""
-import re
 import subprocess
 import sys
+
+from counting import collected, row
 
 DRIVER = sys.argv[1]
 
@@ -15,19 +16,11 @@ def names():
 
 def instructions_a_byte(reader, given):
     """One run under callgrind, which counts only while the reader's function is being run."""
-    command = ["valgrind", "--tool=callgrind", "--callgrind-out-file=/dev/null", "--toggle-collect=" + reader]
-    done = subprocess.run(command + [DRIVER, "run", reader, given], capture_output=True, text=True)
-    collected = re.search(r"Collected : (\d+)", done.stderr)
-    if done.returncode != 0 or collected is None:
-        sys.exit("callgrind failed:\n" + done.stderr)
-    heard = int(done.stdout.split()[0])
-    if int(collected.group(1)) < heard / 20:
+    instructions, printed = collected([DRIVER, "run", reader, given], reader)
+    heard = int(printed.split()[0])
+    if instructions < heard / 20:
         sys.exit("callgrind counted next to nothing in " + reader + ": has the driver lost its name?")
-    return int(collected.group(1)) / heard
-
-
-def row(name, cells):
-    print(f"{name:38}" + "".join(f"{cell:>10}" for cell in cells))
+    return instructions / heard
 
 
 def main():

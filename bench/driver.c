@@ -13,6 +13,7 @@
 #include <string.h>
 #include <time.h>
 
+#include "chance.h"
 #include "readers.h"
 
 enum {
@@ -47,24 +48,6 @@ struct line {
     uint8_t bytes[INPUT_LENGTH];
     size_t length;
 };
-
-/* ---- Numbers by chance, the same in every run ---- */
-
-static uint64_t chance_state;
-
-static uint64_t chance(void)
-{
-    uint64_t x = chance_state += 0x9E3779B97F4A7C15u;
-    x = (x ^ x >> 30) * 0xBF58476D1CE4E5B9u;
-    x = (x ^ x >> 27) * 0x94D049BB133111EBu;
-    return x ^ x >> 31;
-}
-
-/* A number below a limit. */
-static size_t below(size_t limit)
-{
-    return (size_t)(chance() % limit);
-}
 
 /* ---- Pieces of a line ---- */
 

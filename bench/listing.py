@@ -6,6 +6,8 @@ import subprocess
 import sys
 import time
 
+from counting import row
+
 DRIVER, FOLDER, *PROGRAMS = sys.argv[1:]
 INPUTS = subprocess.run([DRIVER, "names"], capture_output=True, text=True, check=True).stdout.splitlines()[-1].split()
 COUNTED_COPIES = 10
@@ -44,10 +46,6 @@ def best_times(path):
     """The best of some rounds for each program, which take turns in each round."""
     rounds = [[seconds(program, path) for program in PROGRAMS] for _ in range(ROUNDS)]
     return [min(times) for times in zip(*rounds)]
-
-
-def row(name, cells):
-    print(f"{name:38}" + "".join(f"{cell:>10}" for cell in cells))
 
 
 def table(title, figures, form):

@@ -74,4 +74,17 @@ static inline struct answer take_silence(struct receiver *receiver, uint8_t *out
     return settle(receiver, true, out);
 }
 
+/* The next state and the answer, where the state is passed by value. */
+struct received {
+    struct receiver receiver;
+    struct answer answer;
+};
+
+/* The state after a byte. */
+static inline struct received after_byte(struct receiver receiver, uint8_t byte, uint8_t *out, size_t out_len)
+{
+    struct answer answer = take_byte(&receiver, byte, out, out_len);
+    return (struct received){receiver, answer};
+}
+
 #endif

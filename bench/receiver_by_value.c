@@ -2,19 +2,6 @@
 #include "receiver.h"
 #include "readers.h"
 
-/* The next state and the answer. */
-struct received {
-    struct receiver receiver;
-    struct answer answer;
-};
-
-/* The state after a byte. */
-static struct received after_byte(struct receiver receiver, uint8_t byte, uint8_t *out, size_t out_len)
-{
-    struct answer answer = take_byte(&receiver, byte, out, out_len);
-    return (struct received){receiver, answer};
-}
-
 /* The state after a silence, which comes once a line: gcc 12 warns without cause where it is made a part of the loop's
    function. */
 __attribute__((noinline)) static struct received after_silence(struct receiver receiver, uint8_t *out, size_t out_len)

@@ -10,6 +10,7 @@ ghost use mathlib.Core.Path.{_≡_};
 pub type Rows = [[Reading; 5]; 13];
 
 // Both directions, as a host call hands them back.
+#[repr(C)]
 pub struct Energies {
     pub forward: Rows,
     pub reverse: Rows,

@@ -17,29 +17,27 @@ pub fn zero() -> Rows
 fn row_in_range(row: [Reading; 5]) -> bool
     ensures { λ r. ⌜ r ≡ energies.rowInRange row ⌝ }
 {
+    let mut all = true;
     let mut i = 0;
     while i < 5 {
-        if !reading::is_in_range(row[i]) {
-            return false;
-        }
+        all = all & reading::is_in_range(row[i]);
         i += 1;
     }
-    true
+    all
 }
 
-// Whether every reading is within its range.
-pub fn in_range(rows: Rows) -> bool
-    ensures { λ r. ⌜ r ≡ energies.rowsInRange rows ⌝ }
+// Whether every reading is within its range: one pass with a flag and no way out before the end.
+pub fn in_range(rows: &Rows) -> bool
+    ensures { λ r. ⌜ r ≡ energies.rowsInRange (now (rows .entry)) ⌝ }
 {
+    let each: &[[Reading; 5]] = rows;
+    let mut all = true;
     let mut i = 0;
-    while i < 13 {
-        let row = rows[i];
-        if !row_in_range(row) {
-            return false;
-        }
+    while i < each.len() {
+        all = all & row_in_range(each[i]);
         i += 1;
     }
-    true
+    all
 }
 
 // Whether a number is a rate, 1 to 4.

@@ -4,7 +4,7 @@ use mathlib.Core.List.{List}
 use mathlib.Core.Bool.{Bool, _&&_}
 use lib.ListN.{length, replicate}
 use lib.Dec.{leb}
-use Rattle.laws.specs.Memory.{over}
+use Rattle.laws.specs.Memory.{Outcome, outcome, over}
 use Rattle.laws.specs.Test.{pick}
 use Rattle.frame.specs.Frame.{addressOf, lengthOf, dataOf}
 
@@ -16,6 +16,6 @@ addressField bytes = pick (leb 7 (length bytes)) (addressOf bytes) (replicate 6 
 unfoldable pub hasData : List ℕ → Bool
 hasData bytes = leb 10 (length bytes) && (leb (lengthOf bytes) 200 && leb (10 + lengthOf bytes) (length bytes))
 
--- The data over an array of zeros; zeros where the bytes have no data field.
-unfoldable pub dataField : List ℕ → List ℕ
-dataField bytes = pick (hasData bytes) (over (dataOf bytes) (replicate 200 0)) (replicate 200 0)
+-- How many data the bytes have, and the data over the array; none, and the array as it was, where the bytes have no data field.
+unfoldable pub dataTaken : List ℕ → List ℕ → Outcome ℕ
+dataTaken bytes m = pick (hasData bytes) (outcome (lengthOf bytes) (over (dataOf bytes) m)) (outcome 0 m)

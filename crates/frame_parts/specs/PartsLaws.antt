@@ -1,16 +1,15 @@
 -- Laws of a frame taken apart.
-use Prim.Native.Nat.{ℕ, _+_, _≤_, _<_}
-use mathlib.Core.Path.{_≡_, _∙_}
+use Prim.Native.Nat.{ℕ, _+_, _≤_}
+use mathlib.Core.Path.{_≡_, ap, sym, _∙_}
 use mathlib.Core.List.{List, [], _∷_}
 use mathlib.Core.Bool.{true}
 use native.Mathlib.Omega.{arith}
-use lib.ListN.{length, take, drop, getD, replicate, length-drop, length-map}
-use lib.Seq.{drop-cons, length-take-le, take-at, getD-take, getD-drop}
+use lib.ListN.{length, take, drop, getD, length-append, length-drop, length-map}
+use lib.Seq.{drop-cons, length-take-le, take-at}
 use borrow.Author.Tests.{le-leb}
-use Rattle.laws.specs.Memory.{over}
-use Rattle.laws.specs.MemoryLaws.{over-length}
+use Rattle.laws.specs.Memory.{Outcome, outcome, over}
 use Rattle.frame.specs.Frame.{addressOf, lengthOf, fieldOf, dataOf}
-use Rattle.frame_parts.specs.Parts.{addressField, hasData, dataField}
+use Rattle.frame_parts.specs.Parts.{addressField, hasData, dataTaken}
 use Rattle.frame.specs.Recognition.{exactlyOne}
 use Rattle.frame.specs.RecognitionLaws.{one-frame, frame-spans, frame-most}
 
@@ -34,20 +33,15 @@ module _ (bytes : List ℕ) (seven : 7 ≤ length bytes) where
         drop-cons bytes 6 0 (omega arith),
       )
 
--- A byte of the data field, off the bytes.
-pub field-at : (bytes : List ℕ) (i : ℕ) → i < lengthOf bytes → getD (fieldOf bytes) i 0 ≡ getD bytes (10 + i) 0
-unfolding fieldOf
-field-at bytes i h = getD-take (lengthOf bytes) (drop 10 bytes) i 0 h ∙ getD-drop 10 bytes i 0
-
 -- Bytes that have as many data as they say: their field is as long as they say, and where that is at most 200 the data are taken.
 module _ (bytes : List ℕ) (there : 10 + lengthOf bytes ≤ length bytes) where
   pub field-length : length (fieldOf bytes) ≡ lengthOf bytes
   unfolding fieldOf
   field-length = length-take-le (lengthOf bytes) (drop 10 bytes) (rw length-drop (omega arith))
 
-  pub data-there : lengthOf bytes ≤ 200 → dataField bytes ≡ over (dataOf bytes) (replicate 200 0)
-  unfolding dataField hasData
-  data-there most =
+  pub data-there : (m : List ℕ) → lengthOf bytes ≤ 200 → dataTaken bytes m ≡ outcome (lengthOf bytes) (over (dataOf bytes) m)
+  unfolding dataTaken hasData
+  data-there m most =
       rw (le-leb 10 (length bytes) (omega arith), le-leb (lengthOf bytes) 200 most, le-leb (10 + lengthOf bytes) (length bytes) there)
 
 -- The parts of bytes that are exactly one frame.
@@ -67,12 +61,19 @@ module _ (bytes : List ℕ) (one : exactlyOne bytes ≡ true) where
   pub address-field : addressField bytes ≡ addressOf bytes
   address-field = address-there bytes (omega (arith, one-spans))
 
-  pub data-field : dataField bytes ≡ over (dataOf bytes) (replicate 200 0)
-  data-field = data-there bytes (omega (arith, one-spans)) one-most
+  pub data-field : (m : List ℕ) → dataTaken bytes m ≡ outcome (lengthOf bytes) (over (dataOf bytes) m)
+  data-field m = data-there bytes (omega (arith, one-spans)) m one-most
 
-  -- The data fit an array of 200, and are read off the front of it.
-  pub data-fits : lengthOf bytes ≤ length (dataField bytes)
-  data-fits = rw (data-field, over-length (dataOf bytes) (replicate 200 0) (omega (arith, one-most, data-length))) one-most
+  -- What is taken: so many, and they are read off the front of the array.
+  module _ (m : List ℕ) (r : ℕ) (o : List ℕ) (taken : outcome r o ≡ dataTaken bytes m) where
+    pub data-count : r ≡ lengthOf bytes
+    data-count = ap (λ (x : Outcome ℕ). x .answer) (taken ∙ data-field m)
 
-  pub data-front : take (lengthOf bytes) (dataField bytes) ≡ dataOf bytes
-  data-front = rw data-field (take-at (dataOf bytes) _ (lengthOf bytes) data-length)
+    data-over : o ≡ over (dataOf bytes) m
+    data-over = ap (λ (x : Outcome ℕ). x .memory) (taken ∙ data-field m)
+
+    pub data-fits : r ≤ length o
+    data-fits = rw (data-over, length-append) (omega (arith, data-count, data-length))
+
+    pub data-front : take r o ≡ dataOf bytes
+    data-front = rw data-over (take-at (dataOf bytes) _ r (data-length ∙ sym data-count))

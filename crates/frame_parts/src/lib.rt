@@ -5,9 +5,10 @@ ghost use mathlib.Core.List.{map, _∷_, _++_, []};
 ghost use Prim.Native.Nat.{_+_, _≤_};
 ghost use lib.ListN.{length, take};
 ghost use Rattle.laws.specs.Memory.{outcome, over};
-ghost use Rattle.frame.specs.Frame.{checksumOf, masked, unmasked};
-ghost use Rattle.frame_parts.specs.Parts.{addressField, dataField};
-ghost use Rattle.frame_parts.specs.Writing.{writing};
+ghost use Rattle.laws.specs.Part.{part};
+ghost use Rattle.frame.specs.Frame.{checksumOf, masked, unmasked, frameOf};
+ghost use Rattle.frame_parts.specs.Parts.{addressField, dataTaken};
+ghost use Rattle.frame_parts.specs.Writing.{writing, sealing};
 
 // The answer to the writing of a frame; only `Length` leaves bytes in the output buffer.
 pub enum Written {
@@ -43,27 +44,35 @@ pub fn address_of(bytes: &[u8]) -> [u8; 6]
     [bytes[1], bytes[2], bytes[3], bytes[4], bytes[5], bytes[6]]
 }
 
-// The data of a frame, unmasked, at the front of an array that is zero behind them; zeros where the bytes have no data field.
-pub fn data_of(bytes: &[u8]) -> [u8; 200]
-    ensures { λ r. ⌜ r ≡ dataField (now (bytes .entry)) ⌝ }
+// The bytes of a data field, unmasked, at the front of the memory.
+fn unmask_field(field: &[u8], out: &mut [u8])
+    requires { ⌜ length (now field) ≤ length (now out) ⌝ }
+    ensures { λ _. ⌜ now (out .exit) ≡ over (map unmasked (now (field .entry))) (now (out .entry)) ⌝ }
 {
-    let mut payload = [0u8; 200];
+    let mut i = 0;
+    while i < field.len() {
+        out[i] = unmask(field[i]);
+        i += 1;
+    }
+}
+
+// Writes the data of a frame, unmasked, to the front of an array, and answers how many they are. Bytes that have no data field have none,
+// and leave the array as it was.
+pub fn take_data(bytes: &[u8], payload: &mut [u8; 200]) -> usize
+    ensures { λ r. ⌜ outcome r (now (payload .exit)) ≡ dataTaken (now (bytes .entry)) (now (payload .entry)) ⌝ }
+{
     if bytes.len() < 10 {
-        return payload;
+        return 0;
     }
     let length = bytes[9] as usize;
     if 200 < length {
-        return payload;
+        return 0;
     }
     if bytes.len() < 10 + length {
-        return payload;
+        return 0;
     }
-    let mut i = 0;
-    while i < length {
-        payload[i] = unmask(bytes[10 + i]);
-        i += 1;
-    }
-    payload
+    unmask_field(&bytes[10..10 + length], payload);
+    length
 }
 
 // The bytes of a frame before its data field: 68, the address field, 68, the control code, the data length.
@@ -94,6 +103,17 @@ fn write_field(payload: &[u8], out: &mut [u8])
     }
 }
 
+// Masks the data where they stand.
+fn mask_field(field: &mut [u8])
+    ensures { λ _. ⌜ now (field .exit) ≡ map masked (now (field .entry)) ⌝ }
+{
+    let mut i = 0;
+    while i < field.len() {
+        field[i] = mask(field[i]);
+        i += 1;
+    }
+}
+
 // The checksum of the first `n` bytes, and 16, after them.
 fn write_end(n: usize, out: &mut [u8])
     requires { ⌜ n + 2 ≤ length (now out) ⌝ }
@@ -101,6 +121,16 @@ fn write_end(n: usize, out: &mut [u8])
 {
     out[n] = frame::checksum(&out[..n]);
     out[n + 1] = 0x16;
+}
+
+// The frame of an address, a control code and the `count` bytes that stand, masked, at their place from byte 10 on: head and end around
+// them.
+fn close_frame(address: [u8; 6], control: u8, count: usize, out: &mut [u8])
+    requires { ⌜ (count ≤ 200) × (12 + count ≤ length (now out)) ⌝ }
+    ensures { λ _. ⌜ now (out .exit) ≡ over (frameOf address control (part 10 count (now (out .entry)))) (now (out .entry)) ⌝ }
+{
+    write_head(address, control, count as u8, out);
+    write_end(10 + count, out);
 }
 
 // Writes the frame of an address, a control code and data, masked here, to the front of the output buffer.
@@ -114,8 +144,23 @@ pub fn write_frame(address: [u8; 6], control: u8, payload: &[u8], out: &mut [u8]
     if out.len() < 12 + n {
         return Written::TooLittleMemory;
     }
-    write_head(address, control, n as u8, out);
     write_field(payload, &mut out[10..]);
-    write_end(10 + n, out);
+    close_frame(address, control, n, out);
     Written::Length(12 + n)
+}
+
+// Writes the frame of an address, a control code and the `count` data bytes that stand, unmasked, at their place in the output buffer,
+// from byte 10 on: they are masked where they stand.
+pub fn seal_frame(address: [u8; 6], control: u8, count: usize, out: &mut [u8]) -> Written
+    ensures { λ r. ⌜ outcome r (now (out .exit)) ≡ sealing address control count (now (out .entry)) ⌝ }
+{
+    if 200 < count {
+        return Written::TooMuchData;
+    }
+    if out.len() < 12 + count {
+        return Written::TooLittleMemory;
+    }
+    mask_field(&mut out[10..10 + count]);
+    close_frame(address, control, count, out);
+    Written::Length(12 + count)
 }

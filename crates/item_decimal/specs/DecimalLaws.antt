@@ -2,7 +2,7 @@
 use Prim.Native.Nat.{ℕ, zero, suc, _+_, _*_, _/_, _%_, _^_, _≤_, _<_}
 use mathlib.Core.Path.{_≡_, refl, ap}
 use mathlib.Core.List.{List, [], _∷_, _++_}
-use mathlib.Core.Bool.{Bool, true, false, true≢false, false≢true, and-eq-true-iff}
+use mathlib.Core.Bool.{Bool, true, false, _&&_, true≢false, false≢true, and-eq-true-iff}
 use native.Mathlib.Nat.{div-div-eq-div-mul, pow-succ'}
 use native.Mathlib.Numerals.{add-one}
 use native.Mathlib.Omega.{arith}
@@ -10,6 +10,7 @@ use lib.ListN.{length, take, drop, getD}
 use lib.Seq.{drop-cons, drop-length}
 use lib.Dec.{leb}
 use borrow.Author.Tests.{leb-true, le-leb}
+use Rattle.laws.specs.All.{allOf}
 use Rattle.laws.specs.Memory.{Bytes}
 use Rattle.laws.specs.Test.{pick}
 use Rattle.laws.specs.Walk.{Walk}
@@ -69,6 +70,19 @@ all-decimal bytes h = says (scan-says 0 bytes) h
     says : {r : Scan} → ScanSays 0 bytes r → foundNone r ≡ true → Decimal bytes
     says (nothing d) e = d
     says (something j k q f) e = absurd (false≢true e)
+
+-- The same as a test of every byte.
+pub every-decimal : (bytes : List ℕ) → allOf isDecimal bytes ≡ allDecimal bytes
+unfolding allOf allDecimal firstBad firstBadFrom
+every-decimal bytes = from 0 bytes
+  where
+    one-more : (t rest : Bool) (i : ℕ) (found : Scan) → rest ≡ foundNone found → (t && rest) ≡ foundNone (pick t found (BadAt i))
+    one-more true rest i found e = e
+    one-more false rest i found e = refl
+
+    from : (i : ℕ) (bytes : List ℕ) → allOf isDecimal bytes ≡ foundNone (firstBadFrom i bytes)
+    from i [] = refl
+    from i (b ∷ bs) = one-more (isDecimal b) (allOf isDecimal bs) i (firstBadFrom (i + 1) bs) (from (i + 1) bs)
 
 pub scan-decimal : (bytes : List ℕ) → firstBad bytes ≡ AllDecimal → Decimal bytes
 unfolding allDecimal

@@ -1,9 +1,9 @@
 -- Laws of packing and unpacking that go from pair to pair of digits.
-use Prim.Native.Nat.{ℕ, suc, _+_, _-_, _*_, _/_, _^_, _≤_, _<_}
+use Prim.Native.Nat.{ℕ, suc, _+_, _-_, _*_, _/_, _%_, _^_, _≤_, _<_}
 use mathlib.Core.Path.{_≡_, refl, ap, sym, _∙_}
 use mathlib.Core.List.{List, _++_, append-nil}
 use mathlib.Core.Bool.{Bool, true, false}
-use native.Mathlib.Nat.{pow-le-pow-right}
+use native.Mathlib.Nat.{div-div-eq-div-mul, pow-le-pow-right}
 use native.Mathlib.Numerals.{add-one}
 use native.Mathlib.Omega.{arith}
 use borrow.Author.Tests.{lt-ltb, le-ltb, ltb-true, ltb-false, eqb-true, eqb-false}
@@ -45,6 +45,11 @@ module _ {number pairs rest i : ℕ} where
       none-left : (t : Bool) → eqb rest 0 ≡ t → ltb rest 1 ≡ t
       none-left true e = lt-ltb rest 1 (omega (arith, eqb-true rest 0 e))
       none-left false e = le-ltb rest 1 (omega (arith, eqb-false rest 0 e))
+
+-- The byte of a pair of digits: six more for each ten of it.
+pub pair-digits : (n : ℕ) → n % 100 + 6 * (n % 100 / 10) ≡ lowDigits n
+unfolding lowDigits
+pair-digits n = omega (arith, div-div-eq-div-mul n 10 10)
 
 -- The first `i` bytes of the memory are the lowest digits, and `rest` is the number without them.
 pub record Packing (number : ℕ) (m : List ℕ) (rest i : ℕ) (out : List ℕ) : Type 0 where

@@ -35,10 +35,7 @@ pub enum Unpacked {
 fn is_decimal(b: u8) -> bool
     ensures { λ r. ⌜ r ≡ isDecimal b ⌝ }
 {
-    if b % 16 <= 9 {
-        return b / 16 <= 9;
-    }
-    false
+    (b % 16 <= 9) & (b / 16 <= 9)
 }
 
 // The first byte with a half byte above 9.
@@ -55,15 +52,18 @@ pub fn first_bad(bytes: &[u8]) -> Scan
     Scan::AllDecimal
 }
 
-// Whether every half byte is 0 to 9.
+// Whether every half byte is 0 to 9: one pass with a flag and no way out before the end, which the compiler turns into vector
+// instructions.
 pub fn all_decimal(bytes: &[u8]) -> bool
     ensures { λ r. ⌜ r ≡ allDecimal (now (bytes .entry)) ⌝ }
 {
-    let scan = first_bad(bytes);
-    match scan {
-        Scan::AllDecimal => true,
-        Scan::BadAt(_) => false,
+    let mut all = true;
+    let mut i = 0;
+    while i < bytes.len() {
+        all = all & is_decimal(bytes[i]);
+        i += 1;
     }
+    all
 }
 
 // The number of a byte's two digits.
@@ -96,7 +96,8 @@ pub fn pack(number: u64, out: &mut [u8]) -> Packed
     let mut rest = number;
     let mut i = 0;
     while i < out.len() {
-        out[i] = (16 * (rest / 10 % 10) + rest % 10) as u8;
+        let pair = rest % 100;
+        out[i] = (pair + 6 * (pair / 10)) as u8;
         rest = rest / 100;
         i += 1;
     }

@@ -4,28 +4,13 @@ use mathlib.Core.Path.{_≡_, ap, _∙_}
 use mathlib.Core.List.{List, [], _++_, append-nil, append-assoc}
 use native.Mathlib.Omega.{arith}
 use lib.ListN.{length, take, drop, length-append}
-use lib.Seq.{take-at}
 use Rattle.laws.specs.Memory.{over}
 use Rattle.laws.specs.MemoryLaws.{over-length, lent-over}
 
 -- What is written over the front of memory, and behind it over the front of the rest that is lent, stands at the front.
-module _ (n k size : ℕ) (xs ys m o back : List ℕ) (e : o ≡ over xs m) (x : length xs ≡ n) (y : length ys ≡ size) (h : n + size ≤ length m)
-    (l : length m - n ≡ k) (b : back ≡ over ys (take k (drop n o))) where
-  pub two-over : take n o ++ (back ++ drop k (drop n o)) ≡ over (xs ++ ys) m
-  two-over =
-      let kept : length o ≡ length m = ap length e ∙ over-length xs m (omega arith) in
-      let rest : k ≡ length o - n = omega arith in
-      rw (b, rest, e) (lent-over n xs ys m x (omega arith))
-
-  pub two-length : length (take n o ++ (back ++ drop k (drop n o))) ≡ length m
-  two-length =
-      let all : length (xs ++ ys) ≡ n + size = rw (length-append, x, y) in
-      ap length two-over ∙ over-length (xs ++ ys) m (omega arith)
-
-  pub front-of-two : take (n + size) (take n o ++ (back ++ drop k (drop n o))) ≡ xs ++ ys
-  front-of-two =
-      let all : length (xs ++ ys) ≡ n + size = rw (length-append, x, y) in
-      rw two-over (take-at (xs ++ ys) (drop (length (xs ++ ys)) m) (n + size) all)
+pub two-over : (n : ℕ) (xs ys m : List ℕ) {o back : List ℕ} → o ≡ over xs m → length xs ≡ n → n + length ys ≤ length m
+    → back ≡ over ys (take (length o - n) (drop n o)) → take n o ++ (back ++ drop (length o - n) (drop n o)) ≡ over (xs ++ ys) m
+two-over n xs ys m e x h b = rw (b, e) (lent-over n xs ys m x h)
 
 -- `bytes n` is `n` parts end to end.
 pub record Joined (part bytes : ℕ → List ℕ) : Type 0 where

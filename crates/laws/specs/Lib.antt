@@ -10,5 +10,6 @@ pub mod PartLaws
 pub mod JoinLaws
 pub mod ShiftLaws
 pub mod Walk
+pub mod Pass
 pub mod Checks
 pub mod ChecksLaws

@@ -1,15 +1,9 @@
 -- Laws of a walk from place to place that stops at the first place whose test fails.
-use Prim.Native.Nat.{ℕ, suc, _+_, _≤_, _<_}
+use Prim.Native.Nat.{ℕ, _+_, _≤_, _<_}
 use mathlib.Core.Path.{_≡_, refl, _∙_}
-use mathlib.Core.List.{List}
 use mathlib.Core.Bool.{Bool, true, false}
-use native.Mathlib.Numerals.{add-one}
 use native.Mathlib.Omega.{arith}
-use lib.ListN.{length, drop, getD}
-use lib.Seq.{drop-cons, drop-length}
 use Rattle.laws.specs.Test.{pick}
-use Rattle.laws.specs.TestLaws.{and-pick}
-use Rattle.laws.specs.All.{allOf}
 
 -- `from i` is what the walk from place `i` on gives: what the first place says whose test fails, and `end` where none does.
 pub record Walk {R : Type 0} (size : ℕ) (test : ℕ → Bool) (stop : ℕ → R) (end : R) (from : ℕ → R) : Type 0 where
@@ -39,13 +33,3 @@ module _ {R : Type 0} {size : ℕ} {test : ℕ → Bool} {stop : ℕ → R} {end
   walked-end h =
       let all : i ≡ size = omega (arith, walked .passed) in
       walked .so-far ∙ rw all (walk .last)
-
--- The test of every element is such a walk.
-pub all-walk : {A : Type 0} (one : A → Bool) (d : A) (xs : List A)
-    → Walk (length xs) (λ i. one (getD xs i d)) (λ i. false) true (λ i. allOf one (drop i xs))
-unfolding allOf
-all-walk one d xs =
-    record {
-      last = rw drop-length;
-      next = λ i h. rw (drop-cons xs i d h, add-one) (and-pick (one (getD xs i d)) (allOf one (drop (suc i) xs)));
-    }

@@ -11,7 +11,8 @@ use frame::refusal::NOT_FOR_THIS_METER;
 use frame::refusal::SHORT_MEMORY;
 use frame_parts::Written;
 use frame_parts::address_of;
-use frame_parts::data_of;
+use frame_parts::seal_frame;
+use frame_parts::take_data;
 use frame_parts::write_frame;
 use item_command::Asked;
 use item_command::Command;
@@ -30,6 +31,7 @@ ghost use lib.ListN.{length};
 ghost use Rattle.laws.specs.Memory.{outcome};
 ghost use Rattle.laws.specs.ChecksLaws.{AllHold};
 ghost use Rattle.frame.specs.Recognition.{exactlyOne};
+ghost use Rattle.frame_parts.specs.Writing.{placing};
 ghost use Rattle.item_identifier.specs.Identifier.{identifierOf};
 ghost use Rattle.meter_decision.specs.Decision.{checksOf};
 ghost use Rattle.meter.specs.Meter.{untouched};
@@ -61,22 +63,23 @@ fn reply(after: Meter, control: u8, payload: &[u8], out: &mut [u8]) -> Answered
     }
 }
 
-// The reply to 11: the identifier and the value.
-fn reply_value(
+// Puts the data of the reply to 11, the identifier and the value, at their place in the output buffer, and answers how many they are.
+fn place_value(
     meter: Meter,
-    forward: Rows,
-    reverse: Rows,
-    control: u8,
+    forward: &Rows,
+    reverse: &Rows,
     identifier: u32,
     payload: &[u8],
     out: &mut [u8],
-) -> Answered
+) -> usize
     requires { ⌜ (identifier ≡ identifierOf (now payload)) × (mostFrame ≤ length (now out)) ⌝ }
     requires { ⌜ AllHold (checksOf Command.ReadData (now payload) (meter .key) (meter .passwords)) ⌝ }
-    ensures { λ r. ⌜ outcome r (now (out .exit)) ≡ delivered (replies control (replyData Command.ReadData (now (payload .entry)) meter (valueAsked (now (payload .entry)) meter forward reverse)) (untouched meter)) meter (now (out .entry)) ⌝ }
+    ensures { λ r. ⌜ outcome r (now (out .exit)) ≡ placing (replyData Command.ReadData (now (payload .entry)) meter (valueAsked (now (payload .entry)) meter (now (forward .entry)) (now (reverse .entry)))) (now (out .entry)) ⌝ }
 {
-    let mut data = [0u8; 200];
-    bytes::copy(payload, &mut data);
+    out[10] = payload[0];
+    out[11] = payload[1];
+    out[12] = payload[2];
+    out[13] = payload[3];
     let address = meter.address;
     let registers = meter.registers;
     let Held::Length(n) = write_value(
@@ -85,24 +88,49 @@ fn reply_value(
         registers,
         forward,
         reverse,
-        &mut data[4..],
+        &mut out[14..],
     ) else {
+        return 0;
+    };
+    4 + n
+}
+
+// The reply to 11: the identifier and the value.
+fn reply_value(
+    meter: Meter,
+    forward: &Rows,
+    reverse: &Rows,
+    control: u8,
+    identifier: u32,
+    payload: &[u8],
+    out: &mut [u8],
+) -> Answered
+    requires { ⌜ (identifier ≡ identifierOf (now payload)) × (mostFrame ≤ length (now out)) ⌝ }
+    requires { ⌜ AllHold (checksOf Command.ReadData (now payload) (meter .key) (meter .passwords)) ⌝ }
+    ensures { λ r. ⌜ outcome r (now (out .exit)) ≡ delivered (replies control (replyData Command.ReadData (now (payload .entry)) meter (valueAsked (now (payload .entry)) meter (now (forward .entry)) (now (reverse .entry)))) (untouched meter)) meter (now (out .entry)) ⌝ }
+{
+    let count = place_value(meter, forward, reverse, identifier, payload, out);
+    let address = meter.address;
+    let Written::Length(n) = seal_frame(address, control, count, out) else {
         return refused(meter, SHORT_MEMORY);
     };
-    reply(untouched(meter), control, &data[..4 + n], out)
+    Answered {
+        meter: untouched(meter),
+        answer: FrameAnswer::Replied(n),
+    }
 }
 
 // A command carried out: what is decided is replied, with the meter as the command leaves it.
 fn carry_out(
     meter: Meter,
-    forward: Rows,
-    reverse: Rows,
+    forward: &Rows,
+    reverse: &Rows,
     command: Command,
     payload: &[u8],
     out: &mut [u8],
 ) -> Answered
     requires { ⌜ mostFrame ≤ length (now out) ⌝ }
-    ensures { λ r. ⌜ outcome r (now (out .exit)) ≡ delivered (carriedOut command (now (payload .entry)) meter (valueAsked (now (payload .entry)) meter forward reverse)) meter (now (out .entry)) ⌝ }
+    ensures { λ r. ⌜ outcome r (now (out .exit)) ≡ delivered (carriedOut command (now (payload .entry)) meter (valueAsked (now (payload .entry)) meter (now (forward .entry)) (now (reverse .entry)))) meter (now (out .entry)) ⌝ }
 {
     let key = meter.key;
     let passwords = meter.passwords;
@@ -131,13 +159,13 @@ fn carry_out(
 // What a frame comes to: checks 3 and 4, then by control.
 pub(crate) fn treat(
     meter: Meter,
-    forward: Rows,
-    reverse: Rows,
+    forward: &Rows,
+    reverse: &Rows,
     bytes: &[u8],
     out: &mut [u8],
 ) -> Answered
     requires { ⌜ (exactlyOne (now bytes) ≡ true) × (mostFrame ≤ length (now out)) ⌝ }
-    ensures { λ r. ⌜ outcome r (now (out .exit)) ≡ delivered (treated (now (bytes .entry)) meter forward reverse) meter (now (out .entry)) ⌝ }
+    ensures { λ r. ⌜ outcome r (now (out .exit)) ≡ delivered (treated (now (bytes .entry)) meter (now (forward .entry)) (now (reverse .entry))) meter (now (out .entry)) ⌝ }
 {
     let Asked::Known(command) = command_of(bytes[8]) else {
         return refused(meter, NOT_FOR_THIS_METER);
@@ -146,7 +174,7 @@ pub(crate) fn treat(
     if !is_addressed(command, address_of(bytes), own) {
         return refused(meter, NOT_FOR_THIS_METER);
     }
-    let payload = data_of(bytes);
-    let length = bytes[9] as usize;
+    let mut payload = [0u8; 200];
+    let length = take_data(bytes, &mut payload);
     carry_out(meter, forward, reverse, command, &payload[..length], out)
 }

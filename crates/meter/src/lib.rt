@@ -26,6 +26,7 @@ ghost use Rattle.meter.specs.Host.{created, keySet, pulsedBy, settledBy}
 ghost use Rattle.meter.specs.Answer.{answered};
 
 // What a meter holds besides its readings.
+#[repr(C)]
 pub struct Meter {
     pub address: [u8; 6],
     // The programming key is on.
@@ -66,6 +67,15 @@ pub struct Answered {
     pub answer: FrameAnswer,
 }
 
+// The test of 16 over tables that are lent, so that no operation copies them for it.
+fn in_ranges(meter: Meter, forward: &Rows, reverse: &Rows) -> bool
+    ensures { λ r. ⌜ r ≡ withinRanges meter (now (forward .entry)) (now (reverse .entry)) ⌝ }
+{
+    let address = meter.address;
+    let registers = meter.registers;
+    within_ranges(address, registers, forward, reverse)
+}
+
 impl Meter {
     // A fresh meter of an address, with its readings; 8 for an address that is not good.
     pub fn fresh(address: [u8; 6]) -> Created
@@ -98,16 +108,14 @@ impl Meter {
     pub fn is_within_ranges(self, forward: Rows, reverse: Rows) -> bool
         ensures { λ r. ⌜ r ≡ withinRanges self forward reverse ⌝ }
     {
-        let address = self.address;
-        let registers = self.registers;
-        within_ranges(address, registers, forward, reverse)
+        in_ranges(self, &forward, &reverse)
     }
 
     // Sets the programming key. Refused with 16.
     pub fn set_key(self, forward: Rows, reverse: Rows, on: bool) -> KeySet
         ensures { λ r. ⌜ r ≡ keySet on self forward reverse ⌝ }
     {
-        if !self.is_within_ranges(forward, reverse) {
+        if !in_ranges(self, &forward, &reverse) {
             return KeySet {
                 meter: self,
                 answer: HostAnswer::Refused(OUT_OF_RANGE),
@@ -132,7 +140,7 @@ impl Meter {
     ) -> Counted
         ensures { λ r. ⌜ r ≡ pulsedBy amount direction rate self forward reverse ⌝ }
     {
-        let within = self.is_within_ranges(forward, reverse);
+        let within = in_ranges(self, &forward, &reverse);
         meter_counting::pulse(within, forward, reverse, amount, direction, rate)
     }
 
@@ -140,7 +148,7 @@ impl Meter {
     pub fn settle(self, forward: Rows, reverse: Rows) -> Counted
         ensures { λ r. ⌜ r ≡ settledBy self forward reverse ⌝ }
     {
-        let within = self.is_within_ranges(forward, reverse);
+        let within = in_ranges(self, &forward, &reverse);
         meter_counting::settle(within, forward, reverse)
     }
 
@@ -149,7 +157,7 @@ impl Meter {
     pub fn answer(self, forward: Rows, reverse: Rows, bytes: &[u8], out: &mut [u8]) -> Answered
         ensures { λ r. ⌜ outcome r (now (out .exit)) ≡ answered (now (bytes .entry)) self forward reverse (now (out .entry)) ⌝ }
     {
-        if !self.is_within_ranges(forward, reverse) {
+        if !in_ranges(self, &forward, &reverse) {
             return refused(self, OUT_OF_RANGE);
         }
         if out.len() < MOST_FRAME {
@@ -158,6 +166,6 @@ impl Meter {
         if !frame::is_frame(bytes) {
             return refused(self, NOT_ONE_FRAME);
         }
-        treat(self, forward, reverse, bytes, out)
+        treat(self, &forward, &reverse, bytes, out)
     }
 }

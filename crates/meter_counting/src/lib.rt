@@ -6,7 +6,10 @@ use energy::rows;
 use frame::refusal::BAD_ARGUMENT;
 use frame::refusal::OUT_OF_RANGE;
 ghost use mathlib.Core.Path.{_≡_};
+ghost use Rattle.laws.specs.Test.{pick};
+ghost use Rattle.energy.specs.Energies.{pulsed, settled};
 ghost use Rattle.meter_counting.specs.Counting.{counted, pulsedBy, settledBy};
+ghost use Rattle.meter_counting.specs.CountingLaws.{answerOf};
 
 // The answer to a call of the host.
 pub enum HostAnswer {
@@ -31,6 +34,46 @@ fn with_answer(forward: Rows, reverse: Rows, answer: HostAnswer) -> Counted
     }
 }
 
+// The answer to a call: 16 for a meter outside its ranges, then 8 for a bad direction or rate.
+fn answer_of(within: bool, good: bool) -> HostAnswer
+    ensures { λ r. ⌜ r ≡ answerOf within good ⌝ }
+{
+    if !within {
+        return HostAnswer::Refused(OUT_OF_RANGE);
+    }
+    if !good {
+        return HostAnswer::Refused(BAD_ARGUMENT);
+    }
+    HostAnswer::Done
+}
+
+// The rate at which a pulse counts in a direction, or 0, which is none.
+fn rate_where(counts: bool, rate: u8) -> u8
+    ensures { λ r. ⌜ r ≡ pick counts rate 0 ⌝ }
+{
+    if counts {
+        return rate;
+    }
+    0
+}
+
+// The readings of a direction with a pulse amount added where it counts there, else as they are.
+fn pulsed_where(counts: bool, rows: Rows, amount: u32, rate: u8) -> Rows
+    ensures { λ r. ⌜ r ≡ pick counts (pulsed rows amount rate) rows ⌝ }
+{
+    rows::pulsed(rows, amount, rate_where(counts, rate))
+}
+
+// The readings of a direction settled, or as they are.
+fn settled_where(counts: bool, rows: Rows) -> Rows
+    ensures { λ r. ⌜ r ≡ pick counts (settled rows) rows ⌝ }
+{
+    if counts {
+        return rows::settled(rows);
+    }
+    rows
+}
+
 // Adds a pulse amount to row 0's rate and total of direction 0, forward, or 1, reverse. Refused with 16, then with 8.
 pub fn pulse(
     within: bool,
@@ -42,26 +85,12 @@ pub fn pulse(
 ) -> Counted
     ensures { λ r. ⌜ r ≡ pulsedBy amount direction rate within forward reverse ⌝ }
 {
-    if !within {
-        return with_answer(forward, reverse, HostAnswer::Refused(OUT_OF_RANGE));
-    }
-    if 1 < direction {
-        return with_answer(forward, reverse, HostAnswer::Refused(BAD_ARGUMENT));
-    }
-    if !rows::is_rate(rate) {
-        return with_answer(forward, reverse, HostAnswer::Refused(BAD_ARGUMENT));
-    }
-    if direction == 0 {
-        return with_answer(
-            rows::pulsed(forward, amount, rate),
-            reverse,
-            HostAnswer::Done,
-        );
-    }
+    let good = (direction <= 1) & rows::is_rate(rate);
+    let counts = within & good;
     with_answer(
-        forward,
-        rows::pulsed(reverse, amount, rate),
-        HostAnswer::Done,
+        pulsed_where(counts & (direction == 0), forward, amount, rate),
+        pulsed_where(counts & (direction != 0), reverse, amount, rate),
+        answer_of(within, good),
     )
 }
 
@@ -69,12 +98,9 @@ pub fn pulse(
 pub fn settle(within: bool, forward: Rows, reverse: Rows) -> Counted
     ensures { λ r. ⌜ r ≡ settledBy within forward reverse ⌝ }
 {
-    if !within {
-        return with_answer(forward, reverse, HostAnswer::Refused(OUT_OF_RANGE));
-    }
     with_answer(
-        rows::settled(forward),
-        rows::settled(reverse),
-        HostAnswer::Done,
+        settled_where(within, forward),
+        settled_where(within, reverse),
+        answer_of(within, true),
     )
 }

@@ -8,16 +8,15 @@ ghost use Rattle.laws.specs.Memory.{over};
 ghost use Rattle.energy.specs.Columns.{columnBytes, columnsBytes};
 
 // Writes one column at `count` rows from `row` on to the front of the output buffer.
-fn write_column(rows: Rows, rate: usize, row: usize, count: usize, out: &mut [u8])
+fn write_column(rows: &Rows, rate: usize, row: usize, count: usize, out: &mut [u8])
     requires { ⌜ (rate < 5) × (row + count ≤ 13) ⌝ }
     requires { ⌜ 4 * count ≤ length (now out) ⌝ }
-    ensures { λ _. ⌜ now (out .exit) ≡ over (columnBytes rows rate row count) (now (out .entry)) ⌝ }
+    ensures { λ _. ⌜ now (out .exit) ≡ over (columnBytes (now (rows .entry)) rate row count) (now (out .entry)) ⌝ }
 {
     let mut i = 0;
     let mut at = 0;
     while i < count {
-        let from = rows[row + i];
-        let bytes = bytes_of(from[rate]);
+        let bytes = bytes_of(rows[row + i][rate]);
         bytes::copy(&bytes, &mut out[at..]);
         i += 1;
         at += 4;
@@ -26,7 +25,7 @@ fn write_column(rows: Rows, rate: usize, row: usize, count: usize, out: &mut [u8
 
 // Writes `count` columns from `rate` on, each at `span` rows from `row` on, to the front of the output buffer.
 pub(crate) fn write_columns(
-    rows: Rows,
+    rows: &Rows,
     rate: usize,
     count: usize,
     row: usize,
@@ -35,7 +34,7 @@ pub(crate) fn write_columns(
 )
     requires { ⌜ (rate + count ≤ 5) × (row + span ≤ 13) ⌝ }
     requires { ⌜ 4 * count * span ≤ length (now out) ⌝ }
-    ensures { λ _. ⌜ now (out .exit) ≡ over (columnsBytes rows rate count row span) (now (out .entry)) ⌝ }
+    ensures { λ _. ⌜ now (out .exit) ≡ over (columnsBytes (now (rows .entry)) rate count row span) (now (out .entry)) ⌝ }
 {
     let mut i = 0;
     let mut at = 0;

@@ -64,8 +64,8 @@ pub fn fresh_registers() -> [u8; 21]
 }
 
 // Whether what a meter holds is within document 01's ranges: the address good, every register decimal, every reading in range.
-pub fn within_ranges(address: [u8; 6], registers: [u8; 21], forward: Rows, reverse: Rows) -> bool
-    ensures { λ r. ⌜ r ≡ withinRanges address registers forward reverse ⌝ }
+pub fn within_ranges(address: [u8; 6], registers: [u8; 21], forward: &Rows, reverse: &Rows) -> bool
+    ensures { λ r. ⌜ r ≡ withinRanges address registers (now (forward .entry)) (now (reverse .entry)) ⌝ }
 {
     if !is_good(address) {
         return false;
@@ -84,13 +84,13 @@ fn write_held(
     item: Item,
     address: [u8; 6],
     registers: [u8; 21],
-    forward: Rows,
-    reverse: Rows,
+    forward: &Rows,
+    reverse: &Rows,
     out: &mut [u8],
 )
     requires { ⌜ FitsAt (item .length) (locationOf (item .kind)) ⌝ }
     requires { ⌜ item .length ≤ length (now out) ⌝ }
-    ensures { λ _. ⌜ now (out .exit) ≡ over (valueHeld item address registers forward reverse) (now (out .entry)) ⌝ }
+    ensures { λ _. ⌜ now (out .exit) ≡ over (valueHeld item address registers (now (forward .entry)) (now (reverse .entry))) (now (out .entry)) ⌝ }
 {
     let kind = item.kind;
     let location = location_of(kind);
@@ -123,11 +123,11 @@ pub fn write_value(
     identifier: u32,
     address: [u8; 6],
     registers: [u8; 21],
-    forward: Rows,
-    reverse: Rows,
+    forward: &Rows,
+    reverse: &Rows,
     out: &mut [u8],
 ) -> Held
-    ensures { λ r. ⌜ outcome r (now (out .exit)) ≡ valueWritten identifier address registers forward reverse (now (out .entry)) ⌝ }
+    ensures { λ r. ⌜ outcome r (now (out .exit)) ≡ valueWritten identifier address registers (now (forward .entry)) (now (reverse .entry)) (now (out .entry)) ⌝ }
 {
     let Lookup::Listed(item) = item_of(identifier) else {
         return Held::NotListed;

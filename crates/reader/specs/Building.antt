@@ -16,7 +16,6 @@ use Rattle.reader_judgement.specs.declared.Action.the-variants.{ReadData, ReadA
 use Rattle.reader_allowed.specs.Allowed.{mostValue}
 use Rattle.reader.specs.Allowed.{requestValue, isAllowed}
 use Rattle.reader.specs.declared.Request.{Request}
-use Rattle.reader.specs.declared.build.Payload.{Payload}
 use Rattle.reader.specs.declared.Built.{Built}
 use Rattle.reader.specs.declared.Built.the-variants.{Length, Refused}
 
@@ -45,10 +44,6 @@ sentData ReadAddress request = []
 sentData WriteData request =
     identifierBytes (request .identifier)
     ++ (request .level ∷ (request .password ++ (request .operator ++ requestValue request)))
-
--- The data at the front of an array that is zero behind them, with their length.
-unfoldable pub payloadOf : List ℕ → Payload
-payloadOf bytes = record { bytes = over bytes (replicate mostData 0); count = length bytes }
 
 -- A value to be written has at most 38 bytes.
 abbrev pub Counts : Action → Request → Type 0

@@ -1,17 +1,17 @@
--- Laws of a request's bytes: how many its data are, how they come to stand in an array, and the frame behind four FE.
+-- Laws of a request's bytes: how many its data are, how they come to stand at their place, and the frame behind four FE.
 use Prim.Native.Nat.{ℕ, _+_, _-_, _≤_}
 use mathlib.Core.Path.{_≡_, refl, ap, _∙_}
-use mathlib.Core.List.{List, [], _∷_, _++_, append-assoc}
+use mathlib.Core.List.{List, [], _∷_, _++_, append-nil, append-assoc}
 use mathlib.Core.Bool.{true}
 use native.Mathlib.Omega.{arith}
-use lib.ListN.{length, take, drop, replicate, length-append, length-drop}
-use lib.Seq.{take-at, length-take-le}
+use lib.ListN.{length, take, drop, length-append, length-drop, drop-of-length-le}
+use lib.Seq.{take-all, drop-drop, length-take-le}
 use borrow.Author.Tests.{le-leb}
 use Rattle.laws.specs.Memory.{Outcome, outcome, over}
-use Rattle.laws.specs.MemoryLaws.{over-length, lent-over}
-use Rattle.frame.specs.FrameLaws.{frame-for-length}
+use Rattle.laws.specs.Puts.{Puts}
 use Rattle.frame.specs.Frame.{frameFor}
-use Rattle.frame_parts.specs.Writing.{writing}
+use Rattle.frame_parts.specs.Writing.{sealing}
+use Rattle.frame_parts.specs.WritingLaws.{sealed, placed-front}
 use Rattle.frame_parts.specs.declared.Written.{Written}
 use Rattle.frame_parts.specs.declared.Written.the-variants as written
 use Rattle.item_identifier.specs.IdentifierLaws.{identifier-four}
@@ -22,10 +22,9 @@ use Rattle.reader_judgement.specs.declared.Action.{Action}
 use Rattle.reader_judgement.specs.declared.Action.the-variants.{ReadData, ReadAddress, WriteData}
 use Rattle.reader.specs.Allowed.{RequestSized, requestValue, isAllowed}
 use Rattle.reader.specs.AllowedWords.{written-few, admitted-write}
-use Rattle.reader.specs.Building.{mostData, wakeUp, sentTo, sentData, payloadOf, Counts, requestFrame, requestBytes, built}
+use Rattle.reader.specs.Building.{wakeUp, sentTo, sentData, Counts, requestFrame, requestBytes, built}
 use Rattle.reader.specs.declared.Request.{Request}
 use Rattle.reader.specs.declared.Built.the-variants.{Length}
-use Rattle.reader.specs.declared.build.Payload.{Payload}
 
 -- The data of a write, part by part.
 pub write-parts : (request : Request)
@@ -51,17 +50,16 @@ allowed-counts request h = of-action (request .action) refl
     of-action ReadAddress e = tt
     of-action WriteData e = written-few request (admitted-write request h e)
 
+-- A request whose value has at most 38 bytes has at most 50 data bytes.
+pub counted-length : (request : Request) → RequestSized request → (action : Action) → Counts action request → length (sentData action request) ≤ 50
+unfolding sentData
+counted-length request sized ReadData h = omega (arith, identifier-four (request .identifier))
+counted-length request sized ReadAddress h = omega arith
+counted-length request sized WriteData h = omega (arith, write-length request (sized .password) (sized .operator) (omega (arith, sized .value)))
+
 -- An allowed request has at most 50 data bytes.
 pub request-length : (request : Request) → RequestSized request → isAllowed request ≡ true → length (sentData (request .action) request) ≤ 50
-unfolding sentData
-request-length request sized h = of-action (request .action) refl
-  where
-    of-action : (action : Action) → request .action ≡ action → length (sentData action request) ≤ 50
-    of-action ReadData e = omega (arith, identifier-four (request .identifier))
-    of-action ReadAddress e = omega arith
-    of-action WriteData e =
-        let few = written-few request (admitted-write request h e) in
-        omega (arith, write-length request (sized .password) (sized .operator) (omega (arith, sized .value)))
+request-length request sized h = counted-length request sized (request .action) (allowed-counts request h)
 
 -- An address field of six bytes is sent.
 pub sent-six : (action : Action) (address : List ℕ) → length address ≡ 6 → length (sentTo action address) ≡ 6
@@ -69,75 +67,62 @@ sent-six ReadData address h = h
 sent-six ReadAddress address h = refl
 sent-six WriteData address h = h
 
--- A request has sixteen bytes besides its data.
-pub request-bytes-length : (request : Request) → length (request .address) ≡ 6
-    → length (requestBytes request) ≡ 16 + length (sentData (request .action) request)
-unfolding requestBytes requestFrame
-request-bytes-length request six =
-    let action = request .action in
-    let framed = frame-for-length (sentTo action (request .address)) (controlFor (commandFor action)) (sentData action request) (sent-six action (request .address) six) in
-    omega (arith, framed)
+-- Data put behind four FE, and sealed there, for which there is room.
+module _ (bytes m : List ℕ) (few : length bytes ≤ 50) (room : 66 ≤ length m) where
+  -- The memory behind the four FE.
+  abbrev behind : List ℕ
+  behind = drop 4 m
 
--- An array with the data at its front, and their count.
-pub payload-is : (bytes : List ℕ) {a : List ℕ} {n : ℕ} → a ≡ over bytes (replicate mostData 0) → n ≡ length bytes
-    → record { bytes = a; count = n } ≡ payloadOf bytes
-unfolding payloadOf
-payload-is bytes p q = rw (p, q)
+  behind-length : length behind ≡ length m - 4
+  behind-length = length-drop 4 m
 
--- The count is that of the data, which stand at the front of the array and are read off it.
-pub payload-count : (bytes : List ℕ) {payload : Payload} → payload ≡ payloadOf bytes → payload .count ≡ length bytes
-unfolding payloadOf
-payload-count bytes e = ap (λ (p : Payload). p .count) e
+  -- The data put at their place behind the four FE.
+  pub data-placed : {o y : List ℕ} → o ≡ over wakeUp m → y ≡ over bytes (take (length o - 14) (drop 14 o))
+      → take 14 o ++ (y ++ drop (length o - 14) (drop 14 o)) ≡ wakeUp ++ over (take 10 behind ++ bytes) behind
+  data-placed {o} {y} p q =
+      let long : length o ≡ 4 + length behind = ap length p ∙ omega arith in
+      let count : length o - 14 ≡ length behind - 10 = omega arith in
+      let same : y ≡ over bytes (take (length behind - 10) (drop 10 behind)) = q ∙ rw (count, p) in
+      rw (count, p) (ap (λ (l : List ℕ). wakeUp ++ l) (placed-front bytes behind (omega (arith, behind-length)) y same))
 
-pub payload-array : (bytes : List ℕ) {payload : Payload} → payload ≡ payloadOf bytes → payload .bytes ≡ over bytes (replicate mostData 0)
-unfolding payloadOf
-payload-array bytes e = ap (λ (p : Payload). p .bytes) e
-
-payload-front : (bytes : List ℕ) → take (payloadOf bytes .count) (payloadOf bytes .bytes) ≡ bytes
-unfolding payloadOf
-payload-front bytes = take-at bytes (drop (length bytes) (replicate mostData 0)) (length bytes) refl
-
--- A frame written behind four FE, for which there is room.
-module _ (address : List ℕ) (control : ℕ) (bytes m : List ℕ) (six : length address ≡ 6) (few : length bytes ≤ 50) (room : 66 ≤ length m) where
-  module _ (o : List ℕ) (p : o ≡ over wakeUp m) (r : Written) (y : List ℕ)
-      (w : outcome r y ≡ writing address control bytes (take (length o - 4) (drop 4 o))) where
+  module _ (address : List ℕ) (control : ℕ) (six : length address ≡ 6) (o : List ℕ) (p : o ≡ wakeUp ++ over (take 10 behind ++ bytes) behind) (n : ℕ) (e : n ≡ length bytes) (r : Written) (y : List ℕ)
+      (w : outcome r y ≡ sealing address control n (take (length o - 4) (drop 4 o))) where
     -- It is not refused.
-    frame-written : outcome r y ≡ outcome (written.Length (12 + length bytes)) (over (frameFor address control bytes) (take (length o - 4) (drop 4 o)))
-    unfolding writing
-    frame-written =
-        let same : length o ≡ length m = ap length p ∙ over-length wakeUp m (omega arith) in
-        let rest : length (take (length o - 4) (drop 4 o)) ≡ length o - 4 = length-take-le (length o - 4) (drop 4 o) (simp length-drop (omega arith)) in
-        w ∙ rw (le-leb (length bytes) 200 (omega arith), le-leb (12 + length bytes) (length (take (length o - 4) (drop 4 o))) (omega arith))
+    frame-sealed : outcome r y ≡ outcome (written.Length (12 + length bytes)) (over (frameFor address control bytes) behind)
+    frame-sealed =
+        let s = over (take 10 behind ++ bytes) behind in
+        let long : length o ≡ 4 + length s = ap length p ∙ omega arith in
+        let whole : take (length o - 4) (drop 4 o) ≡ s = ap (λ (l : List ℕ). take (length o - 4) (drop 4 l)) p ∙ take-all (length o - 4) s (omega arith) in
+        w ∙ rw (whole, e) (sealed address control bytes behind six (omega arith) (omega (arith, behind-length)))
 
     -- Its length is answered, and it stands behind the four FE.
-    pub written-length : r ≡ written.Length (12 + length bytes)
-    written-length = ap (λ (o : Outcome Written). o .answer) frame-written
+    pub sealed-length : r ≡ written.Length (12 + length bytes)
+    sealed-length = ap (λ (o : Outcome Written). o .answer) frame-sealed
 
-    pub written-over : take 4 o ++ (y ++ drop (length o - 4) (drop 4 o)) ≡ over (wakeUp ++ frameFor address control bytes) m
-    written-over =
-        rw (ap (λ (o : Outcome Written). o .memory) frame-written, p)
-        (lent-over 4 wakeUp (frameFor address control bytes) m refl (omega (arith, frame-for-length address control bytes six)))
+    pub sealed-over : take 4 o ++ (y ++ drop (length o - 4) (drop 4 o)) ≡ over (wakeUp ++ frameFor address control bytes) m
+    sealed-over =
+        let frame = frameFor address control bytes in
+        let left : y ≡ over frame behind = ap (λ (o : Outcome Written). o .memory) frame-sealed in
+        let none : drop (length o - 4) (drop 4 o) ≡ [] = drop-of-length-le (drop 4 o) {i = length o - 4} (omega (arith, length-drop 4 o)) in
+        let first : take 4 o ≡ wakeUp = ap (λ (l : List ℕ). take 4 l) p in
+        let same : 4 + length frame ≡ length (wakeUp ++ frame) = omega arith in
+        let rest : drop (length frame) behind ≡ drop (length (wakeUp ++ frame)) m = drop-drop (length frame) 4 m ∙ ap (λ (k : ℕ). drop k m) same in
+        rw (first, left, none, append-nil) (ap (λ (l : List ℕ). wakeUp ++ (frame ++ l)) rest)
 
 -- The parts of an allowed request, as the code makes them, written where there is room.
-module _ (request : Request) (m : List ℕ) (six : length (request .address) ≡ 6) (room : 66 ≤ length m) (allowed : isAllowed request ≡ true)
-    {address : List ℕ} {control : ℕ} {payload : Payload} (p : address ≡ sentTo (request .action) (request .address))
-    (q : control ≡ controlFor (commandFor (request .action))) (r : payload ≡ payloadOf (sentData (request .action) request)) where
+module _ (request : Request) (m : List ℕ) (room : 66 ≤ length m) (allowed : isAllowed request ≡ true)
+    {address : List ℕ} {control : ℕ} (p : address ≡ sentTo (request .action) (request .address))
+    (q : control ≡ controlFor (commandFor (request .action))) where
   -- Four FE and the frame are the request's bytes.
-  request-made : wakeUp ++ frameFor address control (take (payload .count) (payload .bytes)) ≡ requestBytes request
+  request-made : wakeUp ++ frameFor address control (sentData (request .action) request) ≡ requestBytes request
   unfolding requestBytes requestFrame
-  request-made = rw (p, q, r, payload-front)
-
-  -- There are as many as the code counts.
-  request-count : 16 + payload .count ≡ length (requestBytes request)
-  request-count = omega (arith, payload-count (sentData (request .action) request) r, request-bytes-length request six)
+  request-made = rw (p, q)
 
   -- What the writing leaves is what is built.
-  pub built-written : {n : ℕ} {last : List ℕ}
-      → outcome n last ≡ outcome (16 + payload .count) (over (wakeUp ++ frameFor address control (take (payload .count) (payload .bytes))) m)
+  pub built-written : {n : ℕ} {last : List ℕ} → Puts (wakeUp ++ frameFor address control (sentData (request .action) request)) n m last
       → outcome (Length n) last ≡ built request m
   unfolding built
   built-written e =
       rw (le-leb 66 (length m) room, allowed)
-      (ap (λ (o : Outcome ℕ). outcome (Length (o .answer)) (o .memory)) e
-      ∙ ap (λ (l : List ℕ). outcome (Length (16 + payload .count)) (over l m)) request-made
-      ∙ ap (λ (n : ℕ). outcome (Length n) (over (requestBytes request) m)) request-count)
+      (rw (e .count, e .memory)
+      (ap (λ (l : List ℕ). outcome (Length (length l)) (over l m)) request-made))

@@ -5,23 +5,15 @@ use item_address::WILDCARD;
 use item_identifier::identifier_bytes;
 use reader_judgement::Action;
 ghost use mathlib.Core.Path.{_≡_};
-ghost use mathlib.Core.List.{List, _++_};
-ghost use Prim.Native.Nat.{ℕ, _+_, _≤_};
+ghost use mathlib.Core.List.{_++_};
+ghost use Prim.Native.Nat.{_+_, _≤_};
 ghost use lib.ListN.{length, take};
-ghost use Rattle.laws.specs.Memory.{outcome, over};
+ghost use Rattle.laws.specs.Memory.{over};
+ghost use Rattle.laws.specs.Puts.{Puts};
 ghost use Rattle.frame.specs.Frame.{frameFor};
 ghost use Rattle.reader_allowed.specs.Allowed.{mostValue};
-ghost use Rattle.reader.specs.Building.{requestMemory, mostData, wakeUp, sentTo, sentData, payloadOf, Counts};
+ghost use Rattle.reader.specs.Building.{requestMemory, mostData, wakeUp, sentTo, sentData, Counts};
 ghost use Rattle.item_identifier.specs.Identifier.{identifierBytes};
-
-// The most data bytes of a request: twelve and the value.
-const MOST_DATA: usize = 50;
-
-// The data of a request, unmasked: the first `count` of the bytes.
-pub(crate) struct Payload {
-    pub bytes: [u8; MOST_DATA],
-    pub count: usize,
-}
 
 // The address field of a request: six AA to read an address.
 pub(crate) fn sent_to(action: Action, address: [u8; 6]) -> [u8; 6]
@@ -34,85 +26,75 @@ pub(crate) fn sent_to(action: Action, address: [u8; 6]) -> [u8; 6]
     }
 }
 
-// The data of a read: the identifier.
-fn read_payload(identifier: u32) -> Payload
-    ensures { λ r. ⌜ r ≡ payloadOf (identifierBytes identifier) ⌝ }
+// Puts a data identifier to the front of the memory.
+fn put_identifier(identifier: u32, out: &mut [u8])
+    requires { ⌜ 4 ≤ length (now out) ⌝ }
+    ensures { λ _. ⌜ now (out .exit) ≡ over (identifierBytes identifier) (now (out .entry)) ⌝ }
 {
-    let mut bytes = [0u8; MOST_DATA];
     let di = identifier_bytes(identifier);
-    bytes::copy(&di, &mut bytes);
-    Payload { bytes, count: 4 }
+    out[0] = di[0];
+    out[1] = di[1];
+    out[2] = di[2];
+    out[3] = di[3];
 }
 
-// Data with a part more behind them.
-fn with_part(payload: Payload, part: &[u8]) -> Payload
-    requires { ⌜ payload .count + length (now part) ≤ mostData ⌝ }
-    ensures { λ r. ⌜ ((bytes : List ℕ) → payload ≡ payloadOf bytes → r ≡ payloadOf (bytes ++ now (part .entry))) ⌝ }
+// Puts a part of the data to the memory, from a place on.
+fn put_part(part: &[u8], place: usize, out: &mut [u8])
+    requires { ⌜ place + length (now part) ≤ length (now out) ⌝ }
+    ensures { λ _. ⌜ now (out .exit) ≡ over (take place (now (out .entry)) ++ now (part .entry)) (now (out .entry)) ⌝ }
 {
-    let mut bytes = payload.bytes;
-    let count = payload.count;
-    bytes::copy(part, &mut bytes[count..]);
-    Payload {
-        bytes,
-        count: count + part.len(),
-    }
+    bytes::copy(part, &mut out[place..]);
 }
 
-// The data of a write: identifier, level, password, operator code, value.
-fn write_payload(request: Request) -> Payload
-    requires { ⌜ request .count ≤ mostValue ⌝ }
-    ensures { λ r. ⌜ r ≡ payloadOf (sentData Action.WriteData request) ⌝ }
+// Puts the data of a write: identifier, level, password, operator code, value; answers how many they are.
+fn put_write(request: Request, out: &mut [u8]) -> usize
+    requires { ⌜ (request .count ≤ mostValue) × (mostData ≤ length (now out)) ⌝ }
+    ensures { λ r. ⌜ Puts (sentData Action.WriteData request) r (now (out .entry)) (now (out .exit)) ⌝ }
 {
-    let level = [request.level];
     let password = request.password;
     let operator = request.operator;
     let value = request.value;
     let count = request.count;
-    let named = read_payload(request.identifier);
-    let with_level = with_part(named, &level);
-    let with_password = with_part(with_level, &password);
-    let with_operator = with_part(with_password, &operator);
-    with_part(with_operator, &value[..count])
+    put_identifier(request.identifier, out);
+    out[4] = request.level;
+    put_part(&password, 5, out);
+    put_part(&operator, 8, out);
+    put_part(&value[..count], 12, out);
+    12 + count
 }
 
-// The data of a request.
-pub(crate) fn payload_of(request: Request) -> Payload
-    requires { ⌜ Counts (request .action) request ⌝ }
-    ensures { λ r. ⌜ r ≡ payloadOf (sentData (request .action) request) ⌝ }
+// Puts the data of a request to the front of the memory, and answers how many they are.
+fn put_data(request: Request, out: &mut [u8]) -> usize
+    requires { ⌜ Counts (request .action) request × (mostData ≤ length (now out)) ⌝ }
+    ensures { λ r. ⌜ Puts (sentData (request .action) request) r (now (out .entry)) (now (out .exit)) ⌝ }
 {
     let action = request.action;
     match action {
-        Action::ReadData => read_payload(request.identifier),
-        Action::ReadAddress => Payload {
-            bytes: [0u8; MOST_DATA],
-            count: 0,
-        },
-        Action::WriteData => write_payload(request),
+        Action::ReadData => {
+            put_identifier(request.identifier, out);
+            4
+        }
+        Action::ReadAddress => 0,
+        Action::WriteData => put_write(request, out),
     }
 }
 
-// Writes four FE, and the frame behind them, to the front of the output buffer.
+// Writes four FE, and the frame of the request behind them, to the front of the output buffer; answers how many bytes they are.
 pub(crate) fn write_request(
     address: [u8; 6],
     control: u8,
-    payload: Payload,
+    request: Request,
     out: &mut [u8],
 ) -> usize
-    requires { ⌜ (payload .count ≤ mostData) × (requestMemory ≤ length (now out)) ⌝ }
-    ensures { λ r. ⌜ outcome r (now (out .exit)) ≡ outcome (16 + payload .count) (over (wakeUp ++ frameFor address control (take (payload .count) (payload .bytes))) (now (out .entry))) ⌝ }
+    requires { ⌜ Counts (request .action) request × (requestMemory ≤ length (now out)) ⌝ }
+    ensures { λ r. ⌜ Puts (wakeUp ++ frameFor address control (sentData (request .action) request)) r (now (out .entry)) (now (out .exit)) ⌝ }
 {
-    let bytes = payload.bytes;
-    let count = payload.count;
     out[0] = 0xFE;
     out[1] = 0xFE;
     out[2] = 0xFE;
     out[3] = 0xFE;
-    let Written::Length(n) = frame_parts::write_frame(
-        address,
-        control,
-        &bytes[..count],
-        &mut out[4..],
-    ) else {
+    let count = put_data(request, &mut out[14..]);
+    let Written::Length(n) = frame_parts::seal_frame(address, control, count, &mut out[4..]) else {
         return 0;
     };
     4 + n

@@ -2,7 +2,6 @@
 // a reply is judged against the same value.
 mod build;
 
-use build::payload_of;
 use build::sent_to;
 use build::write_request;
 use frame::refusal::NOT_ALLOWED;
@@ -10,7 +9,7 @@ use frame::refusal::NOT_AN_ANSWER;
 use frame::refusal::NOT_ONE_FRAME;
 use frame::refusal::SHORT_MEMORY;
 use frame_parts::address_of;
-use frame_parts::data_of;
+use frame_parts::take_data;
 use item_command::control_of;
 use reader_allowed::Admission;
 use reader_allowed::MOST_VALUE;
@@ -24,7 +23,6 @@ use reader_judgement::value_start;
 ghost use mathlib.Core.Path.{_≡_};
 ghost use lib.ListN.{drop};
 ghost use Rattle.laws.specs.Memory.{outcome};
-ghost use Rattle.reader.specs.Allowed.{admission};
 ghost use Rattle.reader.specs.Building.{built};
 ghost use Rattle.reader.specs.Judging.{isJudged, Fits, written, judged};
 
@@ -56,28 +54,21 @@ pub enum Built {
     Refused(u8),
 }
 
-// Whether a request is allowed, and if not, the first cause.
-fn admission_of(request: Request) -> Admission
-    ensures { λ r. ⌜ r ≡ admission request ⌝ }
+// Whether a reply to this request is judged: the request is allowed, and answered by one reply.
+fn is_judged(request: Request) -> bool
+    ensures { λ r. ⌜ r ≡ isJudged request ⌝ }
 {
     let action = request.action;
     let address = request.address;
     let value = request.value;
-    admit(
+    let Admission::Allowed = admit(
         action,
         address,
         request.identifier,
         request.level,
         value,
         request.count,
-    )
-}
-
-// Whether a reply to this request is judged: the request is allowed, and answered by one reply.
-fn is_judged(request: Request) -> bool
-    ensures { λ r. ⌜ r ≡ isJudged request ⌝ }
-{
-    let Admission::Allowed = admission_of(request) else {
+    ) else {
         return false;
     };
     true
@@ -107,15 +98,23 @@ impl Request {
         if out.len() < REQUEST_MEMORY {
             return Built::Refused(SHORT_MEMORY);
         }
-        let Admission::Allowed = admission_of(self) else {
-            return Built::Refused(NOT_ALLOWED);
-        };
         let action = self.action;
         let address = self.address;
+        let value = self.value;
+        let Admission::Allowed = admit(
+            action,
+            address,
+            self.identifier,
+            self.level,
+            value,
+            self.count,
+        ) else {
+            return Built::Refused(NOT_ALLOWED);
+        };
         let n = write_request(
             sent_to(action, address),
             control_of(command_for(action)),
-            payload_of(self),
+            self,
             out,
         );
         Built::Length(n)
@@ -142,8 +141,8 @@ impl Request {
         if !is_answer(action, address, control, from) {
             return Judgement::Refused(NOT_AN_ANSWER);
         }
-        let payload = data_of(bytes);
-        let length = bytes[9] as usize;
+        let mut payload = [0u8; 200];
+        let length = take_data(bytes, &mut payload);
         let decided = judge_data(action, self.identifier, control, from, &payload[..length]);
         deliver(decided, value_start(action), &payload[..length], out)
     }

@@ -1,21 +1,41 @@
--- What was found is what `firstBad` says, and each arm answers as `foundNone` does of it.
-use mathlib.Core.Path.{_≡_, ap, sym, _∙_}
+-- The invariant: the flag tells whether the bytes passed are decimal. The laws of `Passing` say what a turn and the end make of it.
+use Prim.Native.Nat.{_-_}
+use mathlib.Core.Path.{_∙_}
 use borrow.Author.Needs.{needs}
-use Rattle.item_decimal.specs.Decimal.{allDecimal, foundNone}
-use Rattle.item_decimal.specs.declared.Scan.{Scan}
+use lib.ListN.{length}
+use Rattle.laws.specs.Pass.{Passing, passing-start, passing-next, passing-end}
+use Rattle.item_decimal.specs.Decimal.{isDecimal}
+use Rattle.item_decimal.specs.DecimalLaws.{every-decimal}
 use Rattle.item_decimal.proofs.all_decimal.Statement.{statement}
 use Rattle.item_decimal.proofs.all_decimal.Tie as tie
 
--- the answer by what was found
-answer : (c : tie.After-first-bad) (r : Scan) → c .first-bad .result ≡ r → foundNone r ≡ allDecimal (c .before .before .args .bytes .now)
-unfolding allDecimal
-answer c r e = ap foundNone (sym e ∙ c .first-bad .ensures)
+abbrev Inv-loop : tie.InvT-loop
+Inv-loop bytes all₀ i₀ all i = Passing isDecimal bytes i all
 
-returns : tie.Need-returns
-returns c = answer (c .before .before) _ (c .enum-told .given .1)
+abbrev μ-loop : tie.MeasureT-loop
+μ-loop bytes all₀ i₀ all i = length bytes - i
 
-returns-2 : tie.Need-returns-2
-returns-2 c = answer (c .before .before) _ (c .enum-told2 .given .1)
+loop-holds : tie.Need-loop-holds Inv-loop μ-loop
+loop-holds c = passing-start
+
+loop-again : tie.Need-loop-again Inv-loop μ-loop
+loop-again c =
+    let in-loop = c .before .before in
+    rw (c .is-decimal .ensures) (passing-next 0 (in-loop .before .loop .inv) (in-loop .loop-test .taken))
+
+returns : tie.Need-returns Inv-loop μ-loop
+returns c = passing-end (c .before .loop .inv) (c .loop-test .left) ∙ every-decimal _
 
 pub all-decimal-spec : {M : Type 1} → statement M
-all-decimal-spec = tie.close (tie.spec (λ c κs. search needs) (λ c. search needs) (λ c. search needs) returns returns-2)
+all-decimal-spec =
+    tie.close
+    (tie.spec
+    Inv-loop
+    μ-loop
+    loop-holds
+    (λ c. search needs)
+    (λ c κs. search needs)
+    (λ c. search needs)
+    (λ c. search needs)
+    loop-again
+    returns)

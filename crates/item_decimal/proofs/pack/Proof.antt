@@ -8,8 +8,8 @@ use borrow.Author.Tests.{not-true, not-false}
 use lib.ListN.{length}
 use lib.Dec.{ltb}
 use Rattle.laws.specs.Memory.{outcome}
-use Rattle.item_decimal.specs.Decimal.{lowDigits, packing}
-use Rattle.item_decimal.specs.PackLaws.{Packing, packing-start, packing-next, packing-end}
+use Rattle.item_decimal.specs.Decimal.{packing}
+use Rattle.item_decimal.specs.PackLaws.{pair-digits, Packing, packing-start, packing-next, packing-end}
 use Rattle.item_decimal.specs.declared.Packed.the-variants.{Done}
 use Rattle.item_decimal.proofs.pack.Statement.{statement}
 use Rattle.item_decimal.proofs.pack.Tie as tie
@@ -53,8 +53,7 @@ loop-less : tie.Need-loop-less Inv-loop μ-loop
 loop-less c = search needs
 
 loop-again : tie.Need-loop-again Inv-loop μ-loop
-unfolding lowDigits
-loop-again c = packing-next (c .before .loop .inv) (c .loop-test .taken) refl
+loop-again c = packing-next (c .before .loop .inv) (c .loop-test .taken) (pair-digits _)
 
 same-length : tie.Need-same-length Inv-loop μ-loop
 same-length c = search needs

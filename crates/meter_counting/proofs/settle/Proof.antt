@@ -1,32 +1,26 @@
--- The test of the ranges decides between the two answers of `settledBy`.
+-- What each direction is left with and what is answered are the parts of `settledBy`.
+use mathlib.Core.Path.{_∙_}
 use borrow.Author.Needs.{needs}
-use borrow.Author.Tests.{not-true, not-false}
-use Rattle.meter_counting.specs.Counting.{settledBy}
+use Rattle.meter_counting.specs.CountingLaws.{settle-parts}
 use Rattle.meter_counting.proofs.settle.Statement.{statement}
 use Rattle.meter_counting.proofs.settle.Tie as tie
 
 returns : tie.Need-returns
-unfolding settledBy
 returns c =
-    let t = c .before in
-    rw (not-true (t .before .args .within) (t .if1 .taken)) (c .with-answer .ensures)
-
-returns-2 : tie.Need-returns-2
-unfolding settledBy
-returns-2 c =
-    let reverse = c .before in
+    let answer = c .before in
+    let reverse = answer .before in
     let forward = reverse .before in
-    let e = forward .before in
-    rw (not-false (e .before .args .within) (e .if1 .left), ← forward .settled .ensures, ← reverse .settled2 .ensures)
-    (c .with-answer2 .ensures)
+    let a = forward .before .args in
+    c .with-answer .ensures
+    ∙ rw (forward .settled-where .ensures, reverse .settled-where2 .ensures, answer .answer-of .ensures)
+    (settle-parts (a .within) (a .forward) (a .reverse))
 
 pub settle-spec : {M : Type 1} → statement M
 settle-spec =
     tie.close
     (tie.spec
     (λ c κs. search needs)
-    returns
     (λ c κs. search needs)
     (λ c κs. search needs)
     (λ c κs. search needs)
-    returns-2)
+    returns)

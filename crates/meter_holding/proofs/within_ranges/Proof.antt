@@ -1,5 +1,4 @@
 -- Each test that was passed is true of `withinRanges` too, and the one that ends the search decides it.
-use Prim.Native.Nat.{_-_}
 use mathlib.Core.Path.{_≡_, sym, _∙_}
 use mathlib.Core.Bool.{true}
 use borrow.Author.Tests.{not-true, not-false}
@@ -27,7 +26,7 @@ good c = sym (c .before .is-good .ensures) ∙ not-false _ (c .if1 .left)
 decimal : (c : tie.Else2) → allDecimal (at-start (first c) .args .t2) ≡ true
 decimal c = sym (c .before .all-decimal .ensures) ∙ not-false _ (c .if2 .left)
 
-forward : (c : tie.Else3) → rowsInRange (at-start (first (second c)) .args .forward) ≡ true
+forward : (c : tie.Else3) → rowsInRange (at-start (first (second c)) .args .forward .now) ≡ true
 forward c = sym (c .before .in-range .ensures) ∙ not-false _ (c .if3 .left)
 
 returns : tie.Need-returns

@@ -35,7 +35,7 @@ module _ (c : tie.After-location-of) (location : Location) (e : c .location-of .
   fits = rw found at (c .before .before .pre .0)
 
   -- the value is what the location holds
-  held : let a = c .before .before .args in heldAt location (a .item .length) (a .t2) (a .t3) (a .forward) (a .reverse) ≡ valueHeld (a .item) (a .t2) (a .t3) (a .forward) (a .reverse)
+  held : let a = c .before .before .args in heldAt location (a .item .length) (a .t2) (a .t3) (a .forward .now) (a .reverse .now) ≡ valueHeld (a .item) (a .t2) (a .t3) (a .forward .now) (a .reverse .now)
   unfolding valueHeld
   held = rw found
 
@@ -52,7 +52,7 @@ fit c =
 columns : (c : tie.After-location) (t : Bool) →
     let f = c .location .given .0 in
     let a = c .before .before .before .before .args in
-    eqb (f .0) 0 ≡ t → columnsBytes (pick t (a .forward) (a .reverse)) (f .1 .0) (f .1 .1 .0) (f .1 .1 .1 .0) (f .1 .1 .1 .1 .0) ≡ valueHeld (a .item) (a .t2) (a .t3) (a .forward) (a .reverse)
+    eqb (f .0) 0 ≡ t → columnsBytes (pick t (a .forward .now) (a .reverse .now)) (f .1 .0) (f .1 .1 .0) (f .1 .1 .1 .0) (f .1 .1 .1 .1 .0) ≡ valueHeld (a .item) (a .t2) (a .t3) (a .forward .now) (a .reverse .now)
 unfolding heldAt
 columns c t e = rw (← e) (held (c .before .before) _ (c .location .given .1))
 

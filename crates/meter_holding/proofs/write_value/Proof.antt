@@ -1,5 +1,4 @@
 -- Where the item is listed and there is room, what is held at its location is written.
-use Prim.Native.Nat.{_-_}
 use mathlib.Core.Path.{_≡_, sym, _∙_}
 use borrow.Author.Tests.{le-leb, lt-leb}
 use Rattle.item.specs.Table.{itemOf}

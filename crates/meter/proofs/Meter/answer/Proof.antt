@@ -10,10 +10,10 @@ use Rattle.meter.proofs.Meter.answer.Statement.{statement}
 use Rattle.meter.proofs.Meter.answer.Tie as tie
 
 abbrev at-start : tie.Else1 → tie.Start
-at-start c = c .before .before .before .before
+at-start c = c .before .before .before .before .before .before
 
-ranges : (c : tie.Else1) → let a = at-start c .args in withinRanges (a .self) (a .forward) (a .reverse) ≡ true
-ranges c = sym (c .before .is-within-ranges .ensures) ∙ not-false _ (c .if1 .left)
+ranges : (c : tie.Else1) → let a = at-start c .args in withinRanges (a .self) (a .t2) (a .t3) ≡ true
+ranges c = sym (c .before .in-ranges .ensures) ∙ not-false _ (c .if1 .left)
 
 one : (c : tie.Else3) → exactlyOne (at-start (c .before .before .before) .args .bytes .now) ≡ true
 one c = sym (c .before .is-frame .ensures) ∙ not-false _ (c .if3 .left)
@@ -22,7 +22,7 @@ returns : tie.Need-returns
 unfolding answered
 returns c =
     let t = c .before in
-    rw (sym (t .before .is-within-ranges .ensures) ∙ not-true _ (t .if1 .taken), c .refused .ensures)
+    rw (sym (t .before .in-ranges .ensures) ∙ not-true _ (t .if1 .taken), c .refused .ensures)
 
 returns-2 : tie.Need-returns-2
 unfolding answered
@@ -38,13 +38,15 @@ returns-3 c =
     rw (ranges (e .before), le-leb _ _ (e .if2 .left), sym (t .before .is-frame .ensures) ∙ not-true _ (t .if3 .taken), c .refused3 .ensures)
 
 treat-requires : tie.Need-treat-requires
-treat-requires c κs = (one (c .before), c .before .before .before .if2 .left)
+treat-requires c κs =
+    let e = c .before .before .before in
+    (one e, e .before .before .if2 .left)
 
 returns-4 : tie.Need-returns-4
 unfolding answered
 returns-4 c =
     let t = c .before .before in
-    let e = t .before .before in
+    let e = t .before .before .before .before in
     let l = e .before .before in
     rw (ranges (l .before), le-leb _ _ (l .if2 .left), one e) (t .treat .ensures)
 

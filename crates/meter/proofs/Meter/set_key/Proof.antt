@@ -8,11 +8,11 @@ use Rattle.meter.proofs.Meter.set_key.Tie as tie
 
 returns : tie.Need-returns
 unfolding keySet
-returns c = rw (sym (c .before .is-within-ranges .ensures) ∙ not-true _ (c .if1 .taken))
+returns c = rw (sym (c .before .in-ranges .ensures) ∙ not-true _ (c .if1 .taken))
 
 returns-2 : tie.Need-returns-2
 unfolding keySet
-returns-2 c = rw (sym (c .before .is-within-ranges .ensures) ∙ not-false _ (c .if1 .left))
+returns-2 c = rw (sym (c .before .in-ranges .ensures) ∙ not-false _ (c .if1 .left))
 
 pub set-key-spec : {M : Type 1} → statement M
 set-key-spec = tie.close (tie.spec (λ c κs. search needs) returns returns-2)

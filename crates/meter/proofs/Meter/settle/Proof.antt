@@ -4,7 +4,7 @@ use Rattle.meter.proofs.Meter.settle.Statement.{statement}
 use Rattle.meter.proofs.Meter.settle.Tie as tie
 
 returns : tie.Need-returns
-returns c = rw (← c .before .is-within-ranges .ensures) (c .settle .ensures)
+returns c = rw (← c .before .in-ranges .ensures) (c .settle .ensures)
 
 pub settle-spec : {M : Type 1} → statement M
 settle-spec = tie.close (tie.spec (λ c κs. search needs) (λ c κs. search needs) returns)

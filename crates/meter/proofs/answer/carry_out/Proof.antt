@@ -1,5 +1,5 @@
 -- Each arm replies what its decision comes to, and hands back the meter as its command leaves it.
-use Prim.Native.Nat.{ℕ, _-_, _*_, _≤_}
+use Prim.Native.Nat.{ℕ, _*_, _≤_}
 use mathlib.Core.Path.{_≡_, ap, sym, _∙_}
 use mathlib.Core.List.{List, [], _∷_}
 use mathlib.Core.Bool.{true, false}
@@ -37,7 +37,7 @@ module _ (c : tie.After-decide) where
 
   -- the value held for the item asked for
   abbrev held : List ℕ
-  held = let a = start .args in valueAsked payload (a .meter) (a .forward) (a .reverse)
+  held = let a = start .args in valueAsked payload (a .meter) (a .forward .now) (a .reverse .now)
 
   -- the control code of the normal reply
   normal-control : c .before .reply-to .result ≡ replyTo (controlFor (start .args .command)) false

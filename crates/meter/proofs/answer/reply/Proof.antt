@@ -1,5 +1,4 @@
 -- The data fit a frame and the frame fits the output buffer, so the frame is written and the other way out is not taken.
-use Prim.Native.Nat.{_-_}
 use mathlib.Core.Logic.{⊎-elim}
 use native.Mathlib.Omega.{arith}
 use Rattle.meter.specs.CarriedOutLaws.{reply-length, reply-delivered}

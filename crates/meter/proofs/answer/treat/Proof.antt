@@ -1,11 +1,11 @@
 -- The tests go in the order of `treated`; what is carried out is the front of the array, which holds the data.
-use Prim.Native.Nat.{_-_, _≤_}
+use Prim.Native.Nat.{_≤_}
 use mathlib.Core.Path.{_≡_, sym, _∙_}
 use native.Mathlib.Omega.{arith}
-use lib.ListN.{length, take, getD}
+use lib.ListN.{length, take}
 use borrow.Author.Tests.{not-true, not-false}
 use lib.Seq.{length-take-le}
-use Rattle.frame.specs.Frame.{addressOf, controlOf, lengthOf, dataOf}
+use Rattle.frame.specs.Frame.{addressOf, controlOf, dataOf}
 use Rattle.frame_parts.specs.PartsLaws.{one-spans, address-field, data-fits, data-front}
 use Rattle.item_command.specs.Command.{commandOf}
 use Rattle.item_command.specs.Addressee.{addressed}
@@ -29,17 +29,15 @@ addressee : (c : tie.After-is-addressed) → let k = c .before .before .before i
 addressee c =
     rw (← address-field _ (at-start (c .before .before .before) .pre .0), ← c .before .address-of .ensures) (sym (c .is-addressed .ensures))
 
-abbrev entry : tie.After-data-of → tie.Start
-entry c = at-start (c .before .before .before .before .before)
+abbrev entry : tie.After-take-data → tie.Start
+entry c = at-start (c .before .before .before .before .before .before)
 
 -- the data fit the array, and are its front
-fits : (c : tie.After-data-of) → getD (entry c .args .bytes .now) 9 0 ≤ length (c .data-of .result)
-unfolding lengthOf
-fits c = rw (c .data-of .ensures) (data-fits _ (entry c .pre .0))
+fits : (c : tie.After-take-data) → c .take-data .result ≤ length (c .take-data .last .1 .0)
+fits c = data-fits _ (entry c .pre .0) _ _ _ (c .take-data .ensures)
 
-front : (c : tie.After-data-of) → take (getD (entry c .args .bytes .now) 9 0) (c .data-of .result) ≡ dataOf (entry c .args .bytes .now)
-unfolding lengthOf
-front c = rw (c .data-of .ensures) (data-front _ (entry c .pre .0))
+front : (c : tie.After-take-data) → take (c .take-data .result) (c .take-data .last .1 .0) ≡ dataOf (entry c .args .bytes .now)
+front c = data-front _ (entry c .pre .0) _ _ _ (c .take-data .ensures)
 
 shared-slice-read-command-of : tie.Need-shared-slice-read-command-of
 shared-slice-read-command-of c = omega (arith, one-spans _ (c .before .before .before .pre .0))
@@ -56,24 +54,18 @@ returns-2 c =
     let t = c .before in
     rw (known (t .before .before .before .before), addressee (t .before) ∙ not-true _ (t .if1 .taken), c .refused2 .ensures)
 
-shared-slice-read-length : tie.Need-shared-slice-read-length
-shared-slice-read-length c = omega (arith, one-spans _ (entry (c .before) .pre .0))
-
-cast-length : tie.Need-cast-length
-cast-length c = omega (arith, c .shared-slice-known3 .given 9)
-
 array-share-prefix-payload : tie.Need-array-share-prefix-payload
-array-share-prefix-payload c = fits (c .before)
+array-share-prefix-payload c = fits c
 
 slice-aggregate-carry-out : tie.Need-slice-aggregate-carry-out
-slice-aggregate-carry-out c = sym (length-take-le _ _ (fits (c .before .before)))
+slice-aggregate-carry-out c = sym (length-take-le _ _ (fits (c .before)))
 
 returns-3 : tie.Need-returns-3
 unfolding treated
 returns-3 c =
     let w = c .before .before in
-    let d = w .before .before .before .before in
-    let e = d .before in
+    let d = w .before .before .before in
+    let e = d .before .before in
     rw (known (e .before .before .before .before), addressee (e .before) ∙ not-false _ (e .if1 .left), ← front d) (w .carry-out .ensures)
 
 pub treat-spec : {M : Type 1} → statement M
@@ -91,8 +83,6 @@ treat-spec =
     (λ c κs. search needs)
     returns-2
     (λ c κs. search needs)
-    shared-slice-read-length
-    cast-length
     array-share-prefix-payload
     slice-aggregate-carry-out
     (λ c κs. search needs)

@@ -17,11 +17,11 @@ use Rattle.meter_holding.proofs.columns.write_column.Statement.{stateme
 use Rattle.meter_holding.proofs.columns.write_column.Tie as tie
 
 abbrev Inv-loop : tie.InvT-loop
-Inv-loop rate row count out₀ rows i₀ at₀ out i at =
+Inv-loop rows rate row count out₀ i₀ at₀ out i at =
     Joining (λ n. readingBytes (readingAt rows (row + n) rate)) (columnBytes rows rate row) count out₀ i at out
 
 abbrev μ-loop : tie.MeasureT-loop
-μ-loop rate row count out₀ rows i₀ at₀ out i at = count - i
+μ-loop rows rate row count out₀ i₀ at₀ out i at = count - i
 
 -- there is room for the next reading
 room : (c : tie.In-loop Inv-loop μ-loop) → c .before .loop .at + 4 ≤ length (c .before .loop .out)
@@ -34,28 +34,7 @@ kept c = joining-length (c .loop .inv)
 loop-holds : tie.Need-loop-holds Inv-loop μ-loop
 loop-holds c =
     let a = c .before .args in
-    joining-start (column-joined (a .t1) (a .rate) (a .row)) (rw column-length (c .before .pre .1))
-
-add-from : tie.Need-add-from Inv-loop μ-loop
-add-from c = search needs
-
-mul-from : tie.Need-mul-from Inv-loop μ-loop
-mul-from c = search needs
-
-array-copy-out-from : tie.Need-array-copy-out-from Inv-loop μ-loop
-array-copy-out-from c = search needs
-
-mul-bytes-of : tie.Need-mul-bytes-of Inv-loop μ-loop
-mul-bytes-of c = search needs
-
-array-read-bytes-of : tie.Need-array-read-bytes-of Inv-loop μ-loop
-array-read-bytes-of c = search needs
-
-bytes-of-requires : tie.Need-bytes-of-requires Inv-loop μ-loop
-bytes-of-requires c κs = search needs
-
-slice-aggregate-copy : tie.Need-slice-aggregate-copy Inv-loop μ-loop
-slice-aggregate-copy c = search needs
+    joining-start (column-joined (a .rows .now) (a .rate) (a .row)) (rw column-length (c .before .pre .1))
 
 sub-copy : tie.Need-sub-copy Inv-loop μ-loop
 sub-copy c = omega (arith, room (c .before .before .before))
@@ -63,25 +42,16 @@ sub-copy c = omega (arith, room (c .before .before .before))
 part-copy-start : tie.Need-part-copy-start Inv-loop μ-loop
 part-copy-start c = omega (arith, room (c .before .before .before))
 
-part-copy-end : tie.Need-part-copy-end Inv-loop μ-loop
-part-copy-end c = search needs
-
 copy-requires : tie.Need-copy-requires Inv-loop μ-loop
 copy-requires c κs =
     let b = c .before .before in
     let four : length (b .bytes-of .result) ≡ 4 = ap length (b .bytes-of .ensures) ∙ reading-length _ in
     simp (length-take, length-drop) (omega (arith, four, room (b .before .before)))
 
-add-i : tie.Need-add-i Inv-loop μ-loop
-add-i c = search needs
-
 add-at : tie.Need-add-at Inv-loop μ-loop
 add-at c =
     let l = c .before .before .before .before .before .before .before in
     omega (arith, room l, kept (l .before), l .before .before .before)
-
-loop-less : tie.Need-loop-less Inv-loop μ-loop
-loop-less c = search needs
 
 loop-again : tie.Need-loop-again Inv-loop μ-loop
 unfolding readingAt
@@ -107,20 +77,20 @@ write-column-spec =
     Inv-loop
     μ-loop
     loop-holds
-    add-from
-    mul-from
-    array-copy-out-from
-    mul-bytes-of
-    array-read-bytes-of
-    bytes-of-requires
-    slice-aggregate-copy
+    (λ c. search needs)
+    (λ c. search needs)
+    (λ c. search needs)
+    (λ c. search needs)
+    (λ c. search needs)
+    (λ c κs. search needs)
+    (λ c. search needs)
     sub-copy
     part-copy-start
-    part-copy-end
+    (λ c. search needs)
     copy-requires
-    add-i
+    (λ c. search needs)
     add-at
-    loop-less
+    (λ c. search needs)
     loop-again
     same-length
     returns)

@@ -28,10 +28,7 @@ kept c = joining-length (c .loop .inv)
 loop-holds : tie.Need-loop-holds Inv-loop μ-loop
 loop-holds c =
     let a = c .before .args in
-    joining-start (columns-joined (a .rows) (a .rate) (a .row) (a .span)) (rw columns-length (c .before .pre .1))
-
-add-write-column : tie.Need-add-write-column Inv-loop μ-loop
-add-write-column c = search needs
+    joining-start (columns-joined (a .rows .now) (a .rate) (a .row) (a .span)) (rw columns-length (c .before .pre .1))
 
 sub-write-column : tie.Need-sub-write-column Inv-loop μ-loop
 sub-write-column c = omega (arith, room c)
@@ -39,26 +36,14 @@ sub-write-column c = omega (arith, room c)
 part-write-column-start : tie.Need-part-write-column-start Inv-loop μ-loop
 part-write-column-start c = omega (arith, room c)
 
-part-write-column-end : tie.Need-part-write-column-end Inv-loop μ-loop
-part-write-column-end c = search needs
-
 write-column-requires : tie.Need-write-column-requires Inv-loop μ-loop
 write-column-requires c κs =
     ((omega arith, omega arith), simp (length-take, length-drop) (omega (arith, room (c .before))))
-
-add-i : tie.Need-add-i Inv-loop μ-loop
-add-i c = search needs
-
-mul-at : tie.Need-mul-at Inv-loop μ-loop
-mul-at c = search needs
 
 add-at : tie.Need-add-at Inv-loop μ-loop
 add-at c =
     let l = c .before .before .before .before in
     omega (arith, room l, kept (l .before), l .before .before .before)
-
-loop-less : tie.Need-loop-less Inv-loop μ-loop
-loop-less c = search needs
 
 loop-again : tie.Need-loop-again Inv-loop μ-loop
 loop-again c =
@@ -79,15 +64,15 @@ write-columns-spec =
     Inv-loop
     μ-loop
     loop-holds
-    add-write-column
+    (λ c. search needs)
     sub-write-column
     part-write-column-start
-    part-write-column-end
+    (λ c. search needs)
     write-column-requires
-    add-i
-    mul-at
+    (λ c. search needs)
+    (λ c. search needs)
     add-at
-    loop-less
+    (λ c. search needs)
     loop-again
     same-length
     returns)

@@ -6,10 +6,10 @@ use mathlib.Core.Bool.{true}
 use native.Mathlib.Omega.{arith}
 use borrow.Author.Needs.{needs}
 use borrow.Author.Tests.{le-leb, lt-leb, not-true, not-false}
-use lib.ListN.{length, take, getD}
+use lib.ListN.{length, take, replicate}
 use lib.Seq.{length-take-le}
 use Rattle.laws.specs.ChecksLaws.{Held, all-left, check-holds, check-fails, no-check-left}
-use Rattle.frame.specs.Frame.{addressOf, controlOf, lengthOf, dataOf}
+use Rattle.frame.specs.Frame.{addressOf, controlOf, dataOf}
 use Rattle.frame.specs.Recognition.{exactlyOne}
 use Rattle.frame_parts.specs.PartsLaws.{one-spans, one-most, data-length, address-field, data-fits, data-front}
 use Rattle.reader_judgement.specs.Judging.{replyValue, dataJudgement}
@@ -52,11 +52,11 @@ allowed-of c = c .before .before
 abbrev frame-of : tie.After-is-answer → tie.Else3
 frame-of c = c .before .before .before .before
 
-abbrev parts-of : tie.After-data-of → tie.Else3
-parts-of c = frame-of (c .before .before)
+abbrev parts-of : tie.After-take-data → tie.Else3
+parts-of c = frame-of (c .before .before .before)
 
-abbrev data-of : tie.After-judge-data → tie.After-data-of
-data-of c = c .before .before .before
+abbrev data-of : tie.After-judge-data → tie.After-take-data
+data-of c = c .before .before
 
 abbrev entry : tie.Else3 → tie.Start
 entry c = start-of (room-of (allowed-of c))
@@ -89,20 +89,18 @@ unfolding callChecks frameChecks judgementOf
 answers c = no-check-left (check-holds (one-frame (frame-of (c .before))) (answer-test (c .before) ∙ not-false _ (c .if4 .left)))
 
 -- the data fit the array, and are its front
-fits : (c : tie.After-data-of) → getD (bytes (entry (parts-of c))) 9 0 ≤ length (c .data-of .result)
-unfolding lengthOf
-fits c = rw (c .data-of .ensures) (data-fits _ (one (parts-of c)))
+fits : (c : tie.After-take-data) → c .take-data .result ≤ length (c .take-data .last .1 .0)
+fits c = data-fits (bytes (entry (parts-of c))) (one (parts-of c)) (replicate 200 0) _ _ (c .take-data .ensures)
 
-front : (c : tie.After-data-of) → take (getD (bytes (entry (parts-of c))) 9 0) (c .data-of .result) ≡ dataOf (bytes (entry (parts-of c)))
-unfolding lengthOf
-front c = rw (c .data-of .ensures) (data-front _ (one (parts-of c)))
+front : (c : tie.After-take-data) → take (c .take-data .result) (c .take-data .last .1 .0) ≡ dataOf (bytes (entry (parts-of c)))
+front c = data-front (bytes (entry (parts-of c))) (one (parts-of c)) (replicate 200 0) _ _ (c .take-data .ensures)
 
 -- the judgement is that of the frame's own parts
 decided : (c : tie.After-judge-data) → c .judge-data .result ≡ decision (entry (parts-of (data-of c)))
 unfolding controlOf
 decided c =
     let d = data-of c in
-    rw (← front d, sym (address-field _ (one (parts-of d))), ← d .before .before .before .address-of .ensures) (c .judge-data .ensures)
+    rw (← front d, sym (address-field _ (one (parts-of d))), ← d .before .before .before .before .address-of .ensures) (c .judge-data .ensures)
 
 returns : tie.Need-returns
 unfolding callChecks judgementOf
@@ -134,7 +132,7 @@ returns-5 c =
     let l = c .before .before in
     let v = l .before .before .before in
     let d = data-of (v .before) in
-    (rw (decided (v .before), v .value-start .ensures, front d) at (l .deliver .ensures)) ∙ judged-by _ _ _ (answers (d .before))
+    (rw (decided (v .before), v .value-start .ensures, front d) at (l .deliver .ensures)) ∙ judged-by _ _ _ (answers (d .before .before))
 
 pub judge-spec : {M : Type 1} → statement M
 judge-spec =
@@ -150,10 +148,8 @@ judge-spec =
     (λ c κs. search needs)
     returns-4
     (λ c κs. search needs)
-    (λ c. omega (arith, one-spans _ (one (parts-of (c .before)))))
-    (λ c. omega (arith, c .shared-slice-known3 .given 9))
-    (λ c. fits (c .before))
-    (λ c. sym (length-take-le _ _ (fits (c .before .before))))
+    (λ c. fits c)
+    (λ c. sym (length-take-le _ _ (fits (c .before))))
     (λ c κs. search needs)
     (λ c κs. search needs)
     (λ c. fits (data-of (c .before)))

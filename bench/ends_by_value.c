@@ -1,0 +1,112 @@
+/* Both ends in C, which pass meter, readings and request by value, and return by value what they change. It is compiled
+   by gcc and by clang, each under its own name, ENDS, which stands before the names of the calls: these take what they
+   are given as the proved calls do, and hand it on by value to the operation itself, which is not made a part of them.
+ */
+#include "exchange.h"
+
+#define JOINED(name, call) name##_##call
+#define NAMED(name, call) JOINED(name, call)
+
+#ifdef __clang__
+#define OPERATION __attribute__((noinline)) static
+#else
+#define OPERATION __attribute__((noipa)) static
+#endif
+
+OPERATION struct meter_answer answer_by_value(struct meter meter, struct energies energies, const uint8_t *bytes,
+                                              size_t count, uint8_t *out, size_t out_len)
+{
+    struct written answer = answer_frame(&meter, &energies, bytes, count, out, out_len);
+    return (struct meter_answer){meter, answer.refusal, answer.length};
+}
+
+OPERATION struct meter_set set_key_by_value(struct meter meter, struct energies energies, bool on)
+{
+    uint8_t refusal = set_key(&meter, &energies, on);
+    return (struct meter_set){meter, refusal};
+}
+
+OPERATION struct readings pulse_by_value(struct meter meter, struct energies energies, uint32_t amount,
+                                         uint8_t direction, uint8_t rate)
+{
+    uint8_t refusal = pulse(&meter, &energies, amount, direction, rate);
+    return (struct readings){energies, refusal};
+}
+
+OPERATION struct readings settle_by_value(struct meter meter, struct energies energies)
+{
+    uint8_t refusal = settle_rows(&meter, &energies);
+    return (struct readings){energies, refusal};
+}
+
+OPERATION struct written build_by_value(struct request request, uint8_t *out, size_t out_len)
+{
+    return build_request(&request, out, out_len);
+}
+
+OPERATION struct judgement judge_by_value(struct request request, const uint8_t *bytes, size_t count, uint8_t *out,
+                                          size_t out_len)
+{
+    return judge_reply(&request, bytes, count, out, out_len);
+}
+
+/* The receiver is passed and returned by value. */
+static size_t hear(const uint8_t *sent, size_t count, uint8_t *heard, size_t heard_len)
+{
+    struct received received = {{{0}, 0}, {0, 0, 0}};
+    for (size_t i = 0; i < count; i++)
+        received = after_byte(received.receiver, sent[i], heard, heard_len);
+    return received.answer.bytes;
+}
+
+OPERATION struct exchange_done exchange_by_value(struct request request, struct meter meter, struct energies energies,
+                                                 uint8_t *sent, size_t sent_len, uint8_t *heard, size_t heard_len,
+                                                 uint8_t *reply, size_t reply_len, uint8_t *value, size_t value_len)
+{
+    struct lent lent = {sent, sent_len, heard, heard_len, reply, reply_len, value, value_len};
+    struct exchange_answer done = exchange(&request, &meter, &energies, &lent, hear);
+    return (struct exchange_done){meter, done.judgement.which, done.judgement.number, done.delivered, done.replied};
+}
+
+/* ---- The calls ---- */
+
+struct meter_answer NAMED(ENDS, answer)(struct meter meter, struct energies energies, const uint8_t *bytes,
+                                        size_t count, uint8_t *out, size_t out_len)
+{
+    return answer_by_value(meter, energies, bytes, count, out, out_len);
+}
+
+struct meter_set NAMED(ENDS, set_key)(struct meter meter, struct energies energies, bool on)
+{
+    return set_key_by_value(meter, energies, on);
+}
+
+struct readings NAMED(ENDS, pulse)(struct meter meter, struct energies energies, uint32_t amount, uint8_t direction,
+                                   uint8_t rate)
+{
+    return pulse_by_value(meter, energies, amount, direction, rate);
+}
+
+struct readings NAMED(ENDS, settle)(struct meter meter, struct energies energies)
+{
+    return settle_by_value(meter, energies);
+}
+
+struct written NAMED(ENDS, build)(struct request request, uint8_t *out, size_t out_len)
+{
+    return build_by_value(request, out, out_len);
+}
+
+struct judgement NAMED(ENDS, judge)(struct request request, const uint8_t *bytes, size_t count, uint8_t *out,
+                                    size_t out_len)
+{
+    return judge_by_value(request, bytes, count, out, out_len);
+}
+
+struct exchange_done NAMED(ENDS, exchange)(struct request request, struct meter meter, struct energies energies,
+                                           uint8_t *sent, size_t sent_len, uint8_t *heard, size_t heard_len,
+                                           uint8_t *reply, size_t reply_len, uint8_t *value, size_t value_len)
+{
+    return exchange_by_value(request, meter, energies, sent, sent_len, heard, heard_len, reply, reply_len, value,
+                             value_len);
+}

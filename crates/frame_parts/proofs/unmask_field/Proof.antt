@@ -1,0 +1,57 @@
+-- The invariant, `Mapping`: the bytes passed stand unmasked at the front, and the rest is as it was. Its laws say what a turn and the end make of it.
+use Prim.Native.Nat.{_-_}
+use borrow.Author.Needs.{needs}
+use lib.ListN.{length}
+use Rattle.frame.specs.Frame.{unmasked}
+use Rattle.laws.specs.MemoryLaws.{Mapping, mapping-start, mapping-next, mapping-end}
+use Rattle.frame_parts.proofs.unmask_field.Statement.{statement}
+use Rattle.frame_parts.proofs.unmask_field.Tie as tie
+
+abbrev Inv-loop : tie.InvT-loop
+Inv-loop field out₀ i₀ out i = Mapping unmasked field out₀ i out
+
+abbrev μ-loop : tie.MeasureT-loop
+μ-loop field out₀ i₀ out i = length field - i
+
+loop-holds : tie.Need-loop-holds Inv-loop μ-loop
+loop-holds c = mapping-start (c .before .before .pre)
+
+shared-slice-read-unmask : tie.Need-shared-slice-read-unmask Inv-loop μ-loop
+shared-slice-read-unmask c = search needs
+
+unmask-requires : tie.Need-unmask-requires Inv-loop μ-loop
+unmask-requires c κs = search needs
+
+slice-write-out : tie.Need-slice-write-out Inv-loop μ-loop
+slice-write-out c = search needs
+
+add-i : tie.Need-add-i Inv-loop μ-loop
+add-i c = search needs
+
+loop-less : tie.Need-loop-less Inv-loop μ-loop
+loop-less c = search needs
+
+loop-again : tie.Need-loop-again Inv-loop μ-loop
+loop-again c = mapping-next (c .before .before .before .loop .inv) (c .before .before .loop-test .taken) (c .unmask .ensures)
+
+same-length : tie.Need-same-length Inv-loop μ-loop
+same-length c = search needs
+
+returns : tie.Need-returns Inv-loop μ-loop
+returns c = mapping-end (c .before .loop .inv) (c .loop-test .left)
+
+pub unmask-field-spec : {M : Type 1} → statement M
+unmask-field-spec =
+    tie.close
+    (tie.spec
+    Inv-loop
+    μ-loop
+    loop-holds
+    shared-slice-read-unmask
+    unmask-requires
+    slice-write-out
+    add-i
+    loop-less
+    loop-again
+    same-length
+    returns)
