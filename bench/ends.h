@@ -121,15 +121,15 @@ struct exchange_done {
                                            uint8_t *heard, size_t heard_len, uint8_t *reply, size_t reply_len, \
                                            uint8_t *value, size_t value_len);
 
-/* The proved calls, from the archive that `rt staticlib call_ends` writes. */
+/* The proved calls, from the archives that `rt staticlib` writes of call_ends and call_exchange. */
 DECLARE_BY_VALUE(call)
 
-/* The calls in C, by gcc and by clang; those by words look at up to eight bytes as one number. */
+/* The calls in C, by gcc and by clang; those by words are by value too, and look at up to eight bytes as one number. */
 DECLARE_IN_PLACE(in_place_gcc)
 DECLARE_IN_PLACE(in_place_clang)
-DECLARE_IN_PLACE(by_words_gcc)
-DECLARE_IN_PLACE(by_words_clang)
 DECLARE_BY_VALUE(by_value_gcc)
 DECLARE_BY_VALUE(by_value_clang)
+DECLARE_BY_VALUE(by_words_gcc)
+DECLARE_BY_VALUE(by_words_clang)
 
 #endif

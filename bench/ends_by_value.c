@@ -1,7 +1,8 @@
 /* Both ends in C, which pass meter, readings and request by value, and return by value what they change. It is compiled
-   by gcc and by clang, each under its own name, ENDS, which stands before the names of the calls: these take what they
-   are given as the proved calls do, and hand it on by value to the operation itself, which is not made a part of them.
- */
+   by gcc and by clang, each under its own name, ENDS, which stands before the names of the calls, and once more by both
+   where up to eight bytes are looked at as one number (BY_WORDS). A call takes what it is given by value, as the proved
+   one does, and hands it on by value to the operation. That stays a function of its own: made a part of the call, with
+   nothing copied, it would be the code in place. */
 #include "exchange.h"
 
 #define JOINED(name, call) name##_##call
@@ -59,13 +60,29 @@ static size_t hear(const uint8_t *sent, size_t count, uint8_t *heard, size_t hea
     return received.answer.bytes;
 }
 
+/* The meter after an exchange, with what it comes to. */
+static struct exchange_done done_with(struct meter meter, struct exchange_answer done)
+{
+    return (struct exchange_done){meter, done.judgement.which, done.judgement.number, done.delivered, done.replied};
+}
+
 OPERATION struct exchange_done exchange_by_value(struct request request, struct meter meter, struct energies energies,
                                                  uint8_t *sent, size_t sent_len, uint8_t *heard, size_t heard_len,
                                                  uint8_t *reply, size_t reply_len, uint8_t *value, size_t value_len)
 {
-    struct lent lent = {sent, sent_len, heard, heard_len, reply, reply_len, value, value_len};
-    struct exchange_answer done = exchange(&request, &meter, &energies, &lent, hear);
-    return (struct exchange_done){meter, done.judgement.which, done.judgement.number, done.delivered, done.replied};
+    if (!is_within_ranges(&meter, &energies))
+        return done_with(meter, without_reply(NOT_SENT, OUT_OF_RANGE, 0));
+    if (!is_enough(sent_len, heard_len, reply_len, value_len))
+        return done_with(meter, without_reply(NOT_SENT, SHORT_MEMORY, 0));
+    struct written built = build_by_value(request, sent, sent_len);
+    if (built.refusal != 0)
+        return done_with(meter, without_reply(NOT_SENT, built.refusal, 0));
+    size_t delivered = hear(sent, built.length, heard, heard_len);
+    struct meter_answer answered = answer_by_value(meter, energies, heard, delivered, reply, reply_len);
+    if (answered.refusal != 0)
+        return done_with(answered.meter, without_reply(SILENT, answered.refusal, delivered));
+    struct judgement judgement = judge_by_value(request, reply, answered.length, value, value_len);
+    return done_with(answered.meter, (struct exchange_answer){judgement, delivered, answered.length});
 }
 
 /* ---- The calls ---- */

@@ -1,5 +1,5 @@
 """Prints the instructions a call that callgrind counts within each implementation's own function, for each case of both
-ends, and the count of the proved one divided by the smaller of those in C by value, and of those in C in place."""
+ends, and the count of the proved one divided by the smaller of those in C by value, and of those in C by words."""
 import subprocess
 import sys
 
@@ -16,8 +16,8 @@ def names():
 
 
 def instructions(implementation, case, operation):
-    """One run under callgrind, which counts only while the implementation's function is being run. What its caller does to
-    hand over the arguments is not counted."""
+    """One run under callgrind, which counts only while the implementation's function is being run. A proved call, and one in C
+    by value, hands on by value what it is given, and that is counted; what the driver does to call it is not."""
     function = implementation + "_" + operation
     counted, _ = collected([DRIVER, "run", implementation, case], function)
     if counted < 10:
@@ -34,10 +34,10 @@ def main():
     implementations, cases = names()
     proved = implementations[0]
     row("", ["proved"] + [name.rsplit("_", 1)[0] for name in implementations[1:]] + ["proved /"] * 2, WIDTH)
-    row("instructions", [""] + [name.rsplit("_", 1)[1] for name in implementations[1:]] + ["by_value", "in_place"], WIDTH)
+    row("instructions", [""] + [name.rsplit("_", 1)[1] for name in implementations[1:]] + ["by_value", "by_words"], WIDTH)
     for case, operation in cases:
         counted = {name: instructions(name, case, operation) for name in implementations}
-        ratios = [counted[proved] / least(counted, "by_value"), counted[proved] / least(counted, "in_place")]
+        ratios = [counted[proved] / least(counted, "by_value"), counted[proved] / least(counted, "by_words")]
         row(case, [*counted.values()] + [f"{ratio:.2f}" for ratio in ratios], WIDTH)
 
 

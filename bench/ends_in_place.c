@@ -1,6 +1,5 @@
 /* Both ends in C, which change a meter or its readings where they lie. It is compiled by gcc and by clang, each under its
-   own name, ENDS, which stands before the names of the calls, and once more by both where up to eight bytes are looked at as
-   one number (BY_WORDS). */
+   own name, ENDS, which stands before the names of the calls. */
 #include "exchange.h"
 
 #define JOINED(name, call) name##_##call
@@ -54,6 +53,17 @@ struct exchange_answer NAMED(ENDS, exchange)(const struct request *request, stru
                                              uint8_t *heard, size_t heard_len, uint8_t *reply, size_t reply_len,
                                              uint8_t *value, size_t value_len)
 {
-    struct lent lent = {sent, sent_len, heard, heard_len, reply, reply_len, value, value_len};
-    return exchange(request, meter, energies, &lent, hear);
+    if (!is_within_ranges(meter, energies))
+        return without_reply(NOT_SENT, OUT_OF_RANGE, 0);
+    if (!is_enough(sent_len, heard_len, reply_len, value_len))
+        return without_reply(NOT_SENT, SHORT_MEMORY, 0);
+    struct written built = build_request(request, sent, sent_len);
+    if (built.refusal != 0)
+        return without_reply(NOT_SENT, built.refusal, 0);
+    size_t delivered = hear(sent, built.length, heard, heard_len);
+    struct written answer = answer_frame(meter, energies, heard, delivered, reply, reply_len);
+    if (answer.refusal != 0)
+        return without_reply(SILENT, answer.refusal, delivered);
+    struct judgement judgement = judge_reply(request, reply, answer.length, value, value_len);
+    return (struct exchange_answer){judgement, delivered, answer.length};
 }

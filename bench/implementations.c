@@ -47,8 +47,6 @@
 
 HAND_BACK(in_place_gcc)
 HAND_BACK(in_place_clang)
-HAND_BACK(by_words_gcc)
-HAND_BACK(by_words_clang)
 
 #define BY_VALUE(name) \
     {#name,         name##_answer, name##_set_key, name##_pulse, \
@@ -70,6 +68,6 @@ const uint8_t fresh_registers[REGISTERS] = {
 };
 
 const struct implementation implementations[IMPLEMENTATIONS] = {
-    BY_VALUE(call),         BY_VALUE(by_value_gcc),   BY_VALUE(by_value_clang),
-    IN_PLACE(in_place_gcc), IN_PLACE(in_place_clang), IN_PLACE(by_words_gcc), IN_PLACE(by_words_clang),
+    BY_VALUE(call),         BY_VALUE(by_value_gcc),   BY_VALUE(by_value_clang), BY_VALUE(by_words_gcc),
+    BY_VALUE(by_words_clang), IN_PLACE(in_place_gcc), IN_PLACE(in_place_clang),
 };

@@ -28,10 +28,6 @@ const ERROR: u8 = 1;
 
 const REFUSED: u8 = 2;
 
-const SILENT: u8 = 3;
-
-const NOT_SENT: u8 = 4;
-
 // The meter after a frame, with a refusal, or 0 and the reply's length.
 #[repr(C)]
 pub struct MeterAnswer {
@@ -195,7 +191,9 @@ pub extern "C" fn call_pulse(
 pub extern "C" fn call_settle(meter: Meter, energies: Energies) -> Readings
     ensures { λ r. ⌜ r ≡ readingsOf (settledBy meter (energies .forward) (energies .reverse)) ⌝ }
 {
-    readings_of(meter.settle(energies.forward_rows(), energies.reverse_rows()))
+    let forward = energies.forward_rows();
+    let reverse = energies.reverse_rows();
+    readings_of(meter.settle(forward, reverse))
 }
 
 // A request built, by `reader::Request::build`.

@@ -1,5 +1,5 @@
 // The readings of a meter: document 01, "for each direction there are thirteen rows of five readings". What a reading is, what
-// pulses and settlements make of rows, and both directions together. Readings are passed by value, beside the meter.
+// pulses and settlements make of rows, and both directions together. A host hands readings over by value, beside the meter; a test takes them lent.
 pub mod reading;
 pub mod rows;
 
@@ -9,7 +9,7 @@ ghost use mathlib.Core.Path.{_≡_};
 // One direction: row 0 is current, rows 1 to 12 are the last settlements; the columns are the total and rates 1 to 4.
 pub type Rows = [[Reading; 5]; 13];
 
-// Both directions, as a host call hands them back.
+// Both directions, as a host call hands them back; laid out as C has them, for `call_ends`.
 #[repr(C)]
 pub struct Energies {
     pub forward: Rows,

@@ -8,14 +8,16 @@ use native.Mathlib.Omega.{arith}
 use lib.ListN.{length}
 use lib.Dec.{leb, eqb}
 use borrow.Author.Tests.{eqb-true}
-use Rattle.laws.specs.Memory.{Outcome, LeftAlone}
+use Rattle.laws.specs.Memory.{Outcome, outcome, over, LeftAlone}
+use Rattle.laws.specs.Part.{part}
 use Rattle.laws.specs.Test.{pick}
 use Rattle.frame.specs.Refusals.{badArgument}
 use Rattle.laws.specs.TestLaws.{pick-cases}
 use Rattle.item_address.specs.Address.{isGood}
-use Rattle.frame_parts.specs.Writing.{writing}
+use Rattle.frame.specs.Frame.{frameFor}
+use Rattle.frame_parts.specs.Writing.{writing, writingInPlace}
 use Rattle.frame_parts.specs.declared.Written.{Written}
-use Rattle.frame_parts.specs.declared.Written.the-variants.{Length}
+use Rattle.frame_parts.specs.declared.Written.the-variants.{Length, TooMuchData, TooLittleMemory}
 use Rattle.energy.specs.Energies.{Rows, isRate}
 use Rattle.line_terms.specs.Line.{Symbol}
 use Rattle.line.specs.Receiver.{withinRange, refused, delivered, called}
@@ -82,6 +84,8 @@ pub record RefusalsChangeNothing : Type 0 where
       → LeftAlone m (answered bytes m forward reverse memory .answer .meter) × LeftAlone memory (answered bytes m forward reverse memory .memory)
   pub write-frame : (address : List ℕ) (control : ℕ) (payload m : List ℕ) → ((n : ℕ) → writing address control payload m .answer ≡ Length n → ⊥)
       → LeftAlone m (writing address control payload m .memory)
+  pub write-frame-in-place : (address : List ℕ) (control count : ℕ) (m : List ℕ)
+      → ((n : ℕ) → writingInPlace address control count m .answer ≡ Length n → ⊥) → LeftAlone m (writingInPlace address control count m .memory)
   -- A value that is not written, and registers that take none.
   pub write-value : (identifier : ℕ) (address registers : List ℕ) (forward reverse : Rows) (m : List ℕ)
       → ((n : ℕ) → valueWritten identifier address registers forward reverse m .answer ≡ held.Length n → ⊥)
@@ -163,16 +167,26 @@ frame-kept bytes m forward reverse memory n h = go (answers bytes m forward reve
     go (errs command b w loud e) = absurd (not-replied (sym (rw e at h)))
     go (carries command w all e) = absurd (not-replied (sym (rw e at h)))
 
-unwritten-kept : (address : List ℕ) (control : ℕ) (payload m : List ℕ) → ((n : ℕ) → writing address control payload m .answer ≡ Length n → ⊥)
-    → LeftAlone m (writing address control payload m .memory)
-unfolding writing
-unwritten-kept address control payload m =
-    pick-cases P (leb (length payload) 200)
-    (λ _. pick-cases P (leb (12 + length payload) (length m)) (λ _ h. absurd (h (12 + length payload) refl)) (λ _ h. refl))
+unwritten : (count : ℕ) (frame m : List ℕ)
+    → let left = pick (leb count 200) (pick (leb (12 + count) (length m)) (outcome (Length (12 + count)) (over frame m)) (outcome TooLittleMemory m)) (outcome TooMuchData m) in
+    ((n : ℕ) → left .answer ≡ Length n → ⊥) → LeftAlone m (left .memory)
+unwritten count frame m =
+    pick-cases P (leb count 200)
+    (λ _. pick-cases P (leb (12 + count) (length m)) (λ _ h. absurd (h (12 + count) refl)) (λ _ h. refl))
     (λ _ h. refl)
   where
     P : Outcome Written → Type 0
     P o = ((n : ℕ) → o .answer ≡ Length n → ⊥) → LeftAlone m (o .memory)
+
+unwritten-kept : (address : List ℕ) (control : ℕ) (payload m : List ℕ) → ((n : ℕ) → writing address control payload m .answer ≡ Length n → ⊥)
+    → LeftAlone m (writing address control payload m .memory)
+unfolding writing
+unwritten-kept address control payload m = unwritten (length payload) (frameFor address control payload) m
+
+unwritten-in-place-kept : (address : List ℕ) (control count : ℕ) (m : List ℕ)
+    → ((n : ℕ) → writingInPlace address control count m .answer ≡ Length n → ⊥) → LeftAlone m (writingInPlace address control count m .memory)
+unfolding writingInPlace
+unwritten-in-place-kept address control count m = unwritten count (frameFor address control (part 10 count m)) m
 
 value-kept : (identifier : ℕ) (address registers : List ℕ) (forward reverse : Rows) (m : List ℕ)
     → ((n : ℕ) → valueWritten identifier address registers forward reverse m .answer ≡ held.Length n → ⊥)
@@ -256,6 +270,7 @@ demand-1 =
       count-settle = settle-kept;
       frame = frame-kept;
       write-frame = unwritten-kept;
+      write-frame-in-place = unwritten-in-place-kept;
       write-value = value-kept;
       with-value = registers-kept;
       build = build-kept;

@@ -17,5 +17,5 @@ unfoldable pub hasData : List ℕ → Bool
 hasData bytes = leb 10 (length bytes) && (leb (lengthOf bytes) 200 && leb (10 + lengthOf bytes) (length bytes))
 
 -- How many data the bytes have, and the data over the array; none, and the array as it was, where the bytes have no data field.
-unfoldable pub dataTaken : List ℕ → List ℕ → Outcome ℕ
-dataTaken bytes m = pick (hasData bytes) (outcome (lengthOf bytes) (over (dataOf bytes) m)) (outcome 0 m)
+unfoldable pub dataUnmasked : List ℕ → List ℕ → Outcome ℕ
+dataUnmasked bytes m = pick (hasData bytes) (outcome (lengthOf bytes) (over (dataOf bytes) m)) (outcome 0 m)

@@ -2,14 +2,14 @@
 use Prim.Native.Nat.{ℕ, _+_, _≤_}
 use mathlib.Core.Path.{_≡_, ap, sym, _∙_}
 use mathlib.Core.List.{List, [], _∷_}
-use mathlib.Core.Bool.{true}
+use mathlib.Core.Bool.{true, false}
 use native.Mathlib.Omega.{arith}
 use lib.ListN.{length, take, drop, getD, length-append, length-drop, length-map}
 use lib.Seq.{drop-cons, length-take-le, take-at}
 use borrow.Author.Tests.{le-leb}
 use Rattle.laws.specs.Memory.{Outcome, outcome, over}
 use Rattle.frame.specs.Frame.{addressOf, lengthOf, fieldOf, dataOf}
-use Rattle.frame_parts.specs.Parts.{addressField, hasData, dataTaken}
+use Rattle.frame_parts.specs.Parts.{addressField, hasData, dataUnmasked}
 use Rattle.frame.specs.Recognition.{exactlyOne}
 use Rattle.frame.specs.RecognitionLaws.{one-frame, frame-spans, frame-most}
 
@@ -39,10 +39,15 @@ module _ (bytes : List ℕ) (there : 10 + lengthOf bytes ≤ length bytes) where
   unfolding fieldOf
   field-length = length-take-le (lengthOf bytes) (drop 10 bytes) (rw length-drop (omega arith))
 
-  pub data-there : (m : List ℕ) → lengthOf bytes ≤ 200 → dataTaken bytes m ≡ outcome (lengthOf bytes) (over (dataOf bytes) m)
-  unfolding dataTaken hasData
+  pub data-there : (m : List ℕ) → lengthOf bytes ≤ 200 → dataUnmasked bytes m ≡ outcome (lengthOf bytes) (over (dataOf bytes) m)
+  unfolding dataUnmasked hasData
   data-there m most =
       rw (le-leb 10 (length bytes) (omega arith), le-leb (lengthOf bytes) 200 most, le-leb (10 + lengthOf bytes) (length bytes) there)
+
+-- Bytes without a data field have no data, and leave the memory as it was.
+pub no-data : (bytes m : List ℕ) → hasData bytes ≡ false → dataUnmasked bytes m ≡ outcome 0 m
+unfolding dataUnmasked
+no-data bytes m h = rw h
 
 -- The parts of bytes that are exactly one frame.
 module _ (bytes : List ℕ) (one : exactlyOne bytes ≡ true) where
@@ -61,11 +66,11 @@ module _ (bytes : List ℕ) (one : exactlyOne bytes ≡ true) where
   pub address-field : addressField bytes ≡ addressOf bytes
   address-field = address-there bytes (omega (arith, one-spans))
 
-  pub data-field : (m : List ℕ) → dataTaken bytes m ≡ outcome (lengthOf bytes) (over (dataOf bytes) m)
+  pub data-field : (m : List ℕ) → dataUnmasked bytes m ≡ outcome (lengthOf bytes) (over (dataOf bytes) m)
   data-field m = data-there bytes (omega (arith, one-spans)) m one-most
 
   -- What is taken: so many, and they are read off the front of the array.
-  module _ (m : List ℕ) (r : ℕ) (o : List ℕ) (taken : outcome r o ≡ dataTaken bytes m) where
+  module _ (m : List ℕ) (r : ℕ) (o : List ℕ) (taken : outcome r o ≡ dataUnmasked bytes m) where
     pub data-count : r ≡ lengthOf bytes
     data-count = ap (λ (x : Outcome ℕ). x .answer) (taken ∙ data-field m)
 

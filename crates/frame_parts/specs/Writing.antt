@@ -1,7 +1,7 @@
 -- What the writing of a frame answers, and what it leaves in the output buffer.
 use Prim.Native.Nat.{ℕ, _+_}
-use mathlib.Core.List.{List, _++_}
-use lib.ListN.{length, take}
+use mathlib.Core.List.{List}
+use lib.ListN.{length}
 use lib.Dec.{leb}
 use Rattle.laws.specs.Memory.{Outcome, outcome, over}
 use Rattle.laws.specs.Part.{part}
@@ -19,13 +19,9 @@ writing address control payload m =
     (outcome TooLittleMemory m))
     (outcome TooMuchData m)
 
--- Data put, unmasked, at their place in the memory, from byte 10 on; and how many they are.
-abbrev pub placing : List ℕ → List ℕ → Outcome ℕ
-placing payload m = outcome (length payload) (over (take 10 m ++ payload) m)
-
--- The same of the data that stand, unmasked, at their place in the memory: the `count` bytes from byte 10 on.
-unfoldable pub sealing : List ℕ → ℕ → ℕ → List ℕ → Outcome Written
-sealing address control count m =
+-- What the writing of a frame in place answers and leaves: the same, of the `count` data bytes that stand, unmasked, from byte 10 on.
+unfoldable pub writingInPlace : List ℕ → ℕ → ℕ → List ℕ → Outcome Written
+writingInPlace address control count m =
     pick (leb count 200)
     (pick (leb (12 + count) (length m))
     (outcome (Length (12 + count)) (over (frameFor address control (part 10 count m)) m))

@@ -7,8 +7,8 @@ ghost use lib.ListN.{length, take};
 ghost use Rattle.laws.specs.Memory.{outcome, over};
 ghost use Rattle.laws.specs.Part.{part};
 ghost use Rattle.frame.specs.Frame.{checksumOf, masked, unmasked, frameOf};
-ghost use Rattle.frame_parts.specs.Parts.{addressField, dataTaken};
-ghost use Rattle.frame_parts.specs.Writing.{writing, sealing};
+ghost use Rattle.frame_parts.specs.Parts.{addressField, dataUnmasked};
+ghost use Rattle.frame_parts.specs.Writing.{writing, writingInPlace};
 
 // The answer to the writing of a frame; only `Length` leaves bytes in the output buffer.
 pub enum Written {
@@ -58,8 +58,8 @@ fn unmask_field(field: &[u8], out: &mut [u8])
 
 // Writes the data of a frame, unmasked, to the front of an array, and answers how many they are. Bytes that have no data field have none,
 // and leave the array as it was.
-pub fn take_data(bytes: &[u8], payload: &mut [u8; 200]) -> usize
-    ensures { λ r. ⌜ outcome r (now (payload .exit)) ≡ dataTaken (now (bytes .entry)) (now (payload .entry)) ⌝ }
+pub fn unmask_data(bytes: &[u8], payload: &mut [u8; 200]) -> usize
+    ensures { λ r. ⌜ outcome r (now (payload .exit)) ≡ dataUnmasked (now (bytes .entry)) (now (payload .entry)) ⌝ }
 {
     if bytes.len() < 10 {
         return 0;
@@ -125,7 +125,7 @@ fn write_end(n: usize, out: &mut [u8])
 
 // The frame of an address, a control code and the `count` bytes that stand, masked, at their place from byte 10 on: head and end around
 // them.
-fn close_frame(address: [u8; 6], control: u8, count: usize, out: &mut [u8])
+fn write_around(address: [u8; 6], control: u8, count: usize, out: &mut [u8])
     requires { ⌜ (count ≤ 200) × (12 + count ≤ length (now out)) ⌝ }
     ensures { λ _. ⌜ now (out .exit) ≡ over (frameOf address control (part 10 count (now (out .entry)))) (now (out .entry)) ⌝ }
 {
@@ -145,14 +145,14 @@ pub fn write_frame(address: [u8; 6], control: u8, payload: &[u8], out: &mut [u8]
         return Written::TooLittleMemory;
     }
     write_field(payload, &mut out[10..]);
-    close_frame(address, control, n, out);
+    write_around(address, control, n, out);
     Written::Length(12 + n)
 }
 
 // Writes the frame of an address, a control code and the `count` data bytes that stand, unmasked, at their place in the output buffer,
 // from byte 10 on: they are masked where they stand.
-pub fn seal_frame(address: [u8; 6], control: u8, count: usize, out: &mut [u8]) -> Written
-    ensures { λ r. ⌜ outcome r (now (out .exit)) ≡ sealing address control count (now (out .entry)) ⌝ }
+pub fn write_frame_in_place(address: [u8; 6], control: u8, count: usize, out: &mut [u8]) -> Written
+    ensures { λ r. ⌜ outcome r (now (out .exit)) ≡ writingInPlace address control count (now (out .entry)) ⌝ }
 {
     if 200 < count {
         return Written::TooMuchData;
@@ -161,6 +161,6 @@ pub fn seal_frame(address: [u8; 6], control: u8, count: usize, out: &mut [u8]) -
         return Written::TooLittleMemory;
     }
     mask_field(&mut out[10..10 + count]);
-    close_frame(address, control, count, out);
+    write_around(address, control, count, out);
     Written::Length(12 + count)
 }

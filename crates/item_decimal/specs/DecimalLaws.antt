@@ -71,19 +71,6 @@ all-decimal bytes h = says (scan-says 0 bytes) h
     says (nothing d) e = d
     says (something j k q f) e = absurd (false≢true e)
 
--- The same as a test of every byte.
-pub every-decimal : (bytes : List ℕ) → allOf isDecimal bytes ≡ allDecimal bytes
-unfolding allOf allDecimal firstBad firstBadFrom
-every-decimal bytes = from 0 bytes
-  where
-    one-more : (t rest : Bool) (i : ℕ) (found : Scan) → rest ≡ foundNone found → (t && rest) ≡ foundNone (pick t found (BadAt i))
-    one-more true rest i found e = e
-    one-more false rest i found e = refl
-
-    from : (i : ℕ) (bytes : List ℕ) → allOf isDecimal bytes ≡ foundNone (firstBadFrom i bytes)
-    from i [] = refl
-    from i (b ∷ bs) = one-more (isDecimal b) (allOf isDecimal bs) i (firstBadFrom (i + 1) bs) (from (i + 1) bs)
-
 pub scan-decimal : (bytes : List ℕ) → firstBad bytes ≡ AllDecimal → Decimal bytes
 unfolding allDecimal
 scan-decimal bytes h = all-decimal bytes (ap foundNone h)
@@ -99,6 +86,19 @@ decimal-scan bytes h = from 0 bytes h
 pub decimal-all : (bytes : List ℕ) → Decimal bytes → allDecimal bytes ≡ true
 unfolding allDecimal
 decimal-all bytes h = ap foundNone (decimal-scan bytes h)
+
+-- `allDecimal` is the test of every byte.
+pub every-decimal : (bytes : List ℕ) → allOf isDecimal bytes ≡ allDecimal bytes
+unfolding allOf allDecimal firstBad firstBadFrom
+every-decimal bytes = from 0 bytes
+  where
+    one-more : (t rest : Bool) (i : ℕ) (found : Scan) → rest ≡ foundNone found → (t && rest) ≡ foundNone (pick t found (BadAt i))
+    one-more true rest i found e = e
+    one-more false rest i found e = refl
+
+    from : (i : ℕ) (bytes : List ℕ) → allOf isDecimal bytes ≡ foundNone (firstBadFrom i bytes)
+    from i [] = refl
+    from i (b ∷ bs) = one-more (isDecimal b) (allOf isDecimal bs) i (firstBadFrom (i + 1) bs) (from (i + 1) bs)
 
 pub bad-first : (bytes : List ℕ) (i : ℕ) → firstBad bytes ≡ BadAt i → FirstBad bytes i
 unfolding firstBad

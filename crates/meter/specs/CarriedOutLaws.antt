@@ -5,10 +5,10 @@ use mathlib.Core.Bool.{false}
 use mathlib.Core.List.{List}
 use native.Mathlib.Omega.{arith}
 use lib.ListN.{length}
-use borrow.Author.Tests.{le-leb}
 use Rattle.laws.specs.Memory.{Outcome, outcome, over}
 use Rattle.frame.specs.Frame.{frameFor}
 use Rattle.frame_parts.specs.Writing.{writing}
+use Rattle.frame_parts.specs.WritingLaws.{frame-written}
 use Rattle.frame_parts.specs.declared.Written.{Written}
 use Rattle.frame_parts.specs.declared.Written.the-variants.{Length}
 use Rattle.laws.specs.Checks.{firstFailing}
@@ -63,8 +63,7 @@ carried-decided command payload m held =
 module _ (after : Meter) (control : ℕ) (payload out : List ℕ) (few : length payload ≤ 200) (room : 212 ≤ length out) (r : Written) (last : List ℕ)
     (w : outcome r last ≡ writing (after .address) control payload out) where
   written : outcome r last ≡ outcome (Length (12 + length payload)) (over (frameFor (after .address) control payload) out)
-  unfolding writing
-  written = w ∙ rw (le-leb _ _ few, le-leb (12 + length payload) (length out) (omega arith))
+  written = w ∙ frame-written (after .address) control payload out few (omega arith)
 
   pub reply-length : r ≡ Length (12 + length payload)
   reply-length = ap (λ (o : Outcome Written). o .answer) written

@@ -11,9 +11,9 @@ use frame::refusal::NOT_FOR_THIS_METER;
 use frame::refusal::SHORT_MEMORY;
 use frame_parts::Written;
 use frame_parts::address_of;
-use frame_parts::seal_frame;
-use frame_parts::take_data;
+use frame_parts::unmask_data;
 use frame_parts::write_frame;
+use frame_parts::write_frame_in_place;
 use item_command::Asked;
 use item_command::Command;
 use item_command::command_of;
@@ -27,11 +27,11 @@ use meter_holding::write_value;
 ghost use mathlib.Core.Path.{_≡_};
 ghost use mathlib.Core.Bool.{true};
 ghost use Prim.Native.Nat.{_≤_};
-ghost use lib.ListN.{length};
-ghost use Rattle.laws.specs.Memory.{outcome};
+ghost use mathlib.Core.List.{_++_};
+ghost use lib.ListN.{length, take};
+ghost use Rattle.laws.specs.Memory.{outcome, over};
 ghost use Rattle.laws.specs.ChecksLaws.{AllHold};
 ghost use Rattle.frame.specs.Recognition.{exactlyOne};
-ghost use Rattle.frame_parts.specs.Writing.{placing};
 ghost use Rattle.item_identifier.specs.Identifier.{identifierOf};
 ghost use Rattle.meter_decision.specs.Decision.{checksOf};
 ghost use Rattle.meter.specs.Meter.{untouched};
@@ -63,7 +63,7 @@ fn reply(after: Meter, control: u8, payload: &[u8], out: &mut [u8]) -> Answered
     }
 }
 
-// Puts the data of the reply to 11, the identifier and the value, at their place in the output buffer, and answers how many they are.
+// Puts the data of the reply to 11, the identifier and the value, at their place in the output buffer, and answers the value's length.
 fn place_value(
     meter: Meter,
     forward: &Rows,
@@ -71,10 +71,10 @@ fn place_value(
     identifier: u32,
     payload: &[u8],
     out: &mut [u8],
-) -> usize
+) -> Held
     requires { ⌜ (identifier ≡ identifierOf (now payload)) × (mostFrame ≤ length (now out)) ⌝ }
     requires { ⌜ AllHold (checksOf Command.ReadData (now payload) (meter .key) (meter .passwords)) ⌝ }
-    ensures { λ r. ⌜ outcome r (now (out .exit)) ≡ placing (replyData Command.ReadData (now (payload .entry)) meter (valueAsked (now (payload .entry)) meter (now (forward .entry)) (now (reverse .entry)))) (now (out .entry)) ⌝ }
+    ensures { λ r. ⌜ outcome r (now (out .exit)) ≡ outcome (Held.Length (length (valueAsked (now (payload .entry)) meter (now (forward .entry)) (now (reverse .entry))))) (over (take 10 (now (out .entry)) ++ replyData Command.ReadData (now (payload .entry)) meter (valueAsked (now (payload .entry)) meter (now (forward .entry)) (now (reverse .entry)))) (now (out .entry))) ⌝ }
 {
     out[10] = payload[0];
     out[11] = payload[1];
@@ -82,17 +82,14 @@ fn place_value(
     out[13] = payload[3];
     let address = meter.address;
     let registers = meter.registers;
-    let Held::Length(n) = write_value(
+    write_value(
         identifier,
         address,
         registers,
         forward,
         reverse,
         &mut out[14..],
-    ) else {
-        return 0;
-    };
-    4 + n
+    )
 }
 
 // The reply to 11: the identifier and the value.
@@ -109,9 +106,11 @@ fn reply_value(
     requires { ⌜ AllHold (checksOf Command.ReadData (now payload) (meter .key) (meter .passwords)) ⌝ }
     ensures { λ r. ⌜ outcome r (now (out .exit)) ≡ delivered (replies control (replyData Command.ReadData (now (payload .entry)) meter (valueAsked (now (payload .entry)) meter (now (forward .entry)) (now (reverse .entry)))) (untouched meter)) meter (now (out .entry)) ⌝ }
 {
-    let count = place_value(meter, forward, reverse, identifier, payload, out);
+    let Held::Length(length) = place_value(meter, forward, reverse, identifier, payload, out) else {
+        return refused(meter, SHORT_MEMORY);
+    };
     let address = meter.address;
-    let Written::Length(n) = seal_frame(address, control, count, out) else {
+    let Written::Length(n) = write_frame_in_place(address, control, 4 + length, out) else {
         return refused(meter, SHORT_MEMORY);
     };
     Answered {
@@ -175,6 +174,6 @@ pub(crate) fn treat(
         return refused(meter, NOT_FOR_THIS_METER);
     }
     let mut payload = [0u8; 200];
-    let length = take_data(bytes, &mut payload);
+    let length = unmask_data(bytes, &mut payload);
     carry_out(meter, forward, reverse, command, &payload[..length], out)
 }

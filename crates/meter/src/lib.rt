@@ -25,7 +25,7 @@ ghost use Rattle.meter.specs.Meter.{withinRanges};
 ghost use Rattle.meter.specs.Host.{created, keySet, pulsedBy, settledBy};
 ghost use Rattle.meter.specs.Answer.{answered};
 
-// What a meter holds besides its readings.
+// What a meter holds besides its readings; laid out as C has it, for `call_ends`.
 #[repr(C)]
 pub struct Meter {
     pub address: [u8; 6],

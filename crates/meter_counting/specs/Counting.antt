@@ -18,6 +18,10 @@ energiesOf forward reverse = record { forward = forward; reverse = reverse }
 abbrev pub counted : Rows → Rows → HostAnswer → Counted
 counted forward reverse answer = record { energies = energiesOf forward reverse; answer = answer }
 
+-- The answer to a call: 16, then 8 for a bad direction or rate.
+unfoldable pub answerOf : Bool → Bool → HostAnswer
+answerOf within good = pick within (pick good Done (Refused badArgument)) (Refused outOfRange)
+
 -- A pulse amount added: 16, then 8 for a direction not 0 or 1 or a rate not 1 to 4, else row 0's rate and total of its direction.
 unfoldable pub pulsedBy : ℕ → ℕ → ℕ → Bool → Rows → Rows → Counted
 pulsedBy amount direction rate within forward reverse =

@@ -7,13 +7,8 @@ use Rattle.laws.specs.Test.{pick}
 use Rattle.frame.specs.Refusals.{badArgument, outOfRange}
 use Rattle.energy.specs.Energies.{Rows, isRate, pulsed, settled}
 use Rattle.energy.specs.EnergiesLaws.{pulsed-at-zero}
-use Rattle.meter_counting.specs.Counting.{counted, pulsedBy, settledBy}
-use Rattle.meter_counting.specs.declared.HostAnswer.{HostAnswer}
+use Rattle.meter_counting.specs.Counting.{counted, answerOf, pulsedBy, settledBy}
 use Rattle.meter_counting.specs.declared.HostAnswer.the-variants.{Done, Refused}
-
--- The answer: 16, then 8.
-unfoldable pub answerOf : Bool → Bool → HostAnswer
-answerOf ranges good = pick ranges (pick good Done (Refused badArgument)) (Refused outOfRange)
 
 -- A pulse at a rate or at none.
 pub pulsed-where : (t : Bool) (rows : Rows) (amount rate : ℕ) → pulsed rows amount (pick t rate 0) ≡ pick t (pulsed rows amount rate) rows
@@ -43,6 +38,7 @@ pulse-parts amount direction rate ranges forward reverse = go ranges (leb direct
     go true true false = refl
     go true true true = refl
 
+-- A settlement counts in both directions, and in none where it is refused.
 pub settle-parts : (ranges : Bool) (forward reverse : Rows)
     → counted (pick ranges (settled forward) forward) (pick ranges (settled reverse) reverse) (answerOf ranges true)
     ≡ settledBy ranges forward reverse

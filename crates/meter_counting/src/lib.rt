@@ -8,8 +8,7 @@ use frame::refusal::OUT_OF_RANGE;
 ghost use mathlib.Core.Path.{_≡_};
 ghost use Rattle.laws.specs.Test.{pick};
 ghost use Rattle.energy.specs.Energies.{pulsed, settled};
-ghost use Rattle.meter_counting.specs.Counting.{counted, pulsedBy, settledBy};
-ghost use Rattle.meter_counting.specs.CountingLaws.{answerOf};
+ghost use Rattle.meter_counting.specs.Counting.{counted, answerOf, pulsedBy, settledBy};
 
 // The answer to a call of the host.
 pub enum HostAnswer {

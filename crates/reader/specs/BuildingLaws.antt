@@ -10,8 +10,8 @@ use borrow.Author.Tests.{le-leb}
 use Rattle.laws.specs.Memory.{Outcome, outcome, over}
 use Rattle.laws.specs.Puts.{Puts}
 use Rattle.frame.specs.Frame.{frameFor}
-use Rattle.frame_parts.specs.Writing.{sealing}
-use Rattle.frame_parts.specs.WritingLaws.{sealed, placed-front}
+use Rattle.frame_parts.specs.Writing.{writingInPlace}
+use Rattle.frame_parts.specs.WritingLaws.{written-in-place, placed-front}
 use Rattle.frame_parts.specs.declared.Written.{Written}
 use Rattle.frame_parts.specs.declared.Written.the-variants as written
 use Rattle.item_identifier.specs.IdentifierLaws.{identifier-four}
@@ -67,7 +67,7 @@ sent-six ReadData address h = h
 sent-six ReadAddress address h = refl
 sent-six WriteData address h = h
 
--- Data put behind four FE, and sealed there, for which there is room.
+-- Data put behind four FE, and their frame written in place, for which there is room.
 module _ (bytes m : List ℕ) (few : length bytes ≤ 50) (room : 66 ≤ length m) where
   -- The memory behind the four FE.
   abbrev behind : List ℕ
@@ -86,23 +86,23 @@ module _ (bytes m : List ℕ) (few : length bytes ≤ 50) (room : 66 ≤ length 
       rw (count, p) (ap (λ (l : List ℕ). wakeUp ++ l) (placed-front bytes behind (omega (arith, behind-length)) y same))
 
   module _ (address : List ℕ) (control : ℕ) (six : length address ≡ 6) (o : List ℕ) (p : o ≡ wakeUp ++ over (take 10 behind ++ bytes) behind) (n : ℕ) (e : n ≡ length bytes) (r : Written) (y : List ℕ)
-      (w : outcome r y ≡ sealing address control n (take (length o - 4) (drop 4 o))) where
+      (w : outcome r y ≡ writingInPlace address control n (take (length o - 4) (drop 4 o))) where
     -- It is not refused.
-    frame-sealed : outcome r y ≡ outcome (written.Length (12 + length bytes)) (over (frameFor address control bytes) behind)
-    frame-sealed =
+    frame-in-place : outcome r y ≡ outcome (written.Length (12 + length bytes)) (over (frameFor address control bytes) behind)
+    frame-in-place =
         let s = over (take 10 behind ++ bytes) behind in
         let long : length o ≡ 4 + length s = ap length p ∙ omega arith in
         let whole : take (length o - 4) (drop 4 o) ≡ s = ap (λ (l : List ℕ). take (length o - 4) (drop 4 l)) p ∙ take-all (length o - 4) s (omega arith) in
-        w ∙ rw (whole, e) (sealed address control bytes behind six (omega arith) (omega (arith, behind-length)))
+        w ∙ rw (whole, e) (written-in-place address control bytes behind six (omega arith) (omega (arith, behind-length)))
 
     -- Its length is answered, and it stands behind the four FE.
-    pub sealed-length : r ≡ written.Length (12 + length bytes)
-    sealed-length = ap (λ (o : Outcome Written). o .answer) frame-sealed
+    pub in-place-length : r ≡ written.Length (12 + length bytes)
+    in-place-length = ap (λ (o : Outcome Written). o .answer) frame-in-place
 
-    pub sealed-over : take 4 o ++ (y ++ drop (length o - 4) (drop 4 o)) ≡ over (wakeUp ++ frameFor address control bytes) m
-    sealed-over =
+    pub in-place-over : take 4 o ++ (y ++ drop (length o - 4) (drop 4 o)) ≡ over (wakeUp ++ frameFor address control bytes) m
+    in-place-over =
         let frame = frameFor address control bytes in
-        let left : y ≡ over frame behind = ap (λ (o : Outcome Written). o .memory) frame-sealed in
+        let left : y ≡ over frame behind = ap (λ (o : Outcome Written). o .memory) frame-in-place in
         let none : drop (length o - 4) (drop 4 o) ≡ [] = drop-of-length-le (drop 4 o) {i = length o - 4} (omega (arith, length-drop 4 o)) in
         let first : take 4 o ≡ wakeUp = ap (λ (l : List ℕ). take 4 l) p in
         let same : 4 + length frame ≡ length (wakeUp ++ frame) = omega arith in

@@ -94,7 +94,12 @@ pub(crate) fn write_request(
     out[2] = 0xFE;
     out[3] = 0xFE;
     let count = put_data(request, &mut out[14..]);
-    let Written::Length(n) = frame_parts::seal_frame(address, control, count, &mut out[4..]) else {
+    let Written::Length(n) = frame_parts::write_frame_in_place(
+        address,
+        control,
+        count,
+        &mut out[4..],
+    ) else {
         return 0;
     };
     4 + n

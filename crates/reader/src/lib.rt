@@ -9,7 +9,7 @@ use frame::refusal::NOT_AN_ANSWER;
 use frame::refusal::NOT_ONE_FRAME;
 use frame::refusal::SHORT_MEMORY;
 use frame_parts::address_of;
-use frame_parts::take_data;
+use frame_parts::unmask_data;
 use item_command::control_of;
 use reader_allowed::Admission;
 use reader_allowed::MOST_VALUE;
@@ -142,7 +142,7 @@ impl Request {
             return Judgement::Refused(NOT_AN_ANSWER);
         }
         let mut payload = [0u8; 200];
-        let length = take_data(bytes, &mut payload);
+        let length = unmask_data(bytes, &mut payload);
         let decided = judge_data(action, self.identifier, control, from, &payload[..length]);
         deliver(decided, value_start(action), &payload[..length], out)
     }

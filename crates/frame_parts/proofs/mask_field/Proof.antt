@@ -29,29 +29,11 @@ unpassed {xs} {zs} {i} m h =
 whole : (xs zs : List ℕ) → zs ≡ over (map masked xs) xs → zs ≡ map masked xs
 whole xs zs e = e ∙ rw (length-map, drop-length) (append-nil (map masked xs))
 
-slice-read-mask : tie.Need-slice-read-mask Inv-loop μ-loop
-slice-read-mask c = search needs
-
-mask-requires : tie.Need-mask-requires Inv-loop μ-loop
-mask-requires c κs = search needs
-
-slice-write-field : tie.Need-slice-write-field Inv-loop μ-loop
-slice-write-field c = search needs
-
-add-i : tie.Need-add-i Inv-loop μ-loop
-add-i c = search needs
-
-loop-less : tie.Need-loop-less Inv-loop μ-loop
-loop-less c = search needs
-
 loop-again : tie.Need-loop-again Inv-loop μ-loop
 loop-again c =
     let inv = c .before .before .before .loop .inv in
     let more = rw (inv .kept) at (c .before .before .loop-test .taken) in
     mapping-next inv more (c .mask .ensures ∙ ap masked (unpassed inv more))
-
-same-length : tie.Need-same-length Inv-loop μ-loop
-same-length c = search needs
 
 returns : tie.Need-returns Inv-loop μ-loop
 returns c =
@@ -65,11 +47,11 @@ mask-field-spec =
     Inv-loop
     μ-loop
     (λ c. mapping-start (omega arith))
-    slice-read-mask
-    mask-requires
-    slice-write-field
-    add-i
-    loop-less
+    (λ c. search needs)
+    (λ c κs. search needs)
+    (λ c. search needs)
+    (λ c. search needs)
+    (λ c. search needs)
     loop-again
-    same-length
+    (λ c. search needs)
     returns)

@@ -16,26 +16,8 @@ abbrev μ-loop : tie.MeasureT-loop
 loop-holds : tie.Need-loop-holds Inv-loop μ-loop
 loop-holds c = mapping-start (c .before .before .pre)
 
-shared-slice-read-unmask : tie.Need-shared-slice-read-unmask Inv-loop μ-loop
-shared-slice-read-unmask c = search needs
-
-unmask-requires : tie.Need-unmask-requires Inv-loop μ-loop
-unmask-requires c κs = search needs
-
-slice-write-out : tie.Need-slice-write-out Inv-loop μ-loop
-slice-write-out c = search needs
-
-add-i : tie.Need-add-i Inv-loop μ-loop
-add-i c = search needs
-
-loop-less : tie.Need-loop-less Inv-loop μ-loop
-loop-less c = search needs
-
 loop-again : tie.Need-loop-again Inv-loop μ-loop
 loop-again c = mapping-next (c .before .before .before .loop .inv) (c .before .before .loop-test .taken) (c .unmask .ensures)
-
-same-length : tie.Need-same-length Inv-loop μ-loop
-same-length c = search needs
 
 returns : tie.Need-returns Inv-loop μ-loop
 returns c = mapping-end (c .before .loop .inv) (c .loop-test .left)
@@ -47,11 +29,11 @@ unmask-field-spec =
     Inv-loop
     μ-loop
     loop-holds
-    shared-slice-read-unmask
-    unmask-requires
-    slice-write-out
-    add-i
-    loop-less
+    (λ c. search needs)
+    (λ c κs. search needs)
+    (λ c. search needs)
+    (λ c. search needs)
+    (λ c. search needs)
     loop-again
-    same-length
+    (λ c. search needs)
     returns)

@@ -1,4 +1,4 @@
--- The tests say which case of `writing` holds. Where a frame is written, the data are put masked at their place, and the frame is closed
+-- The tests say which case of `writing` holds. Where a frame is written, the data are put masked at their place, and the frame is around
 -- around them: the two callees' contracts in a row.
 use Prim.Native.Nat.{ℕ, _+_, _≤_}
 use mathlib.Core.Path.{_≡_, refl, ap}
@@ -10,7 +10,7 @@ use lib.ListN.{length, length-map}
 use Rattle.frame.specs.Frame.{masked}
 use Rattle.laws.specs.Memory.{outcome}
 use Rattle.frame_parts.specs.Writing.{writing}
-use Rattle.frame_parts.specs.WritingLaws.{placed-front, closed-field}
+use Rattle.frame_parts.specs.WritingLaws.{placed-front, around-field}
 use Rattle.frame_parts.specs.declared.Written.the-variants.{Length}
 use Rattle.frame_parts.proofs.write_frame.Statement.{statement}
 use Rattle.frame_parts.proofs.write_frame.Tie as tie
@@ -39,7 +39,7 @@ returns-3 c =
     let room : 12 + length payload ≤ length m = at-if2 .if2 .left in
     let so-many : length (map masked payload) ≡ length payload = length-map payload masked in
     let there = placed-front (map masked payload) m (omega arith) (at-field .write-field .last .1 .0) (at-field .write-field .ensures) in
-    let front = closed-field (s .args .address) (s .args .control) (length payload) payload m (six-bytes s) refl room there (at-close .close-frame .ensures) in
+    let front = around-field (s .args .address) (s .args .control) (length payload) payload m (six-bytes s) refl room there (at-close .write-around .ensures) in
     simp (le-leb _ _ (at-if2 .before .if1 .left), le-leb _ _ room)
     (ap (λ (l : List ℕ). outcome (Length (12 + length payload)) l) front)
 

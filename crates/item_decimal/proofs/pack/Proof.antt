@@ -1,7 +1,7 @@
 -- The invariant, `Packing`: the bytes passed are the lowest digits, and `rest` is the number without them. Its laws say what a turn and
 -- the end make of it.
 use Prim.Native.Nat.{_-_, _^_}
-use mathlib.Core.Path.{_≡_, refl, ap, sym, _∙_}
+use mathlib.Core.Path.{_≡_, ap, sym, _∙_}
 use mathlib.Core.Bool.{Bool, true, false}
 use borrow.Author.Needs.{needs}
 use borrow.Author.Tests.{not-true, not-false}

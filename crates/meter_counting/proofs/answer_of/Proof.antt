@@ -1,7 +1,6 @@
 -- The two tests go in the order of `answerOf`.
-use borrow.Author.Needs.{needs}
 use borrow.Author.Tests.{not-true, not-false}
-use Rattle.meter_counting.specs.CountingLaws.{answerOf}
+use Rattle.meter_counting.specs.Counting.{answerOf}
 use Rattle.meter_counting.proofs.answer_of.Statement.{statement}
 use Rattle.meter_counting.proofs.answer_of.Tie as tie
 

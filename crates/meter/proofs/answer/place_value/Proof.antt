@@ -2,8 +2,7 @@
 use Prim.Native.Nat.{ℕ, _+_, _-_, _≤_}
 use mathlib.Core.Path.{_≡_, refl, ap, sym, _∙_}
 use mathlib.Core.List.{List, [], _∷_, _++_, append-assoc}
-use mathlib.Core.Bool.{true, false, false≢true}
-use mathlib.Core.Logic.{⊎-elim}
+use mathlib.Core.Bool.{true, false≢true}
 use native.Mathlib.Omega.{arith}
 use lib.ListN.{length, take, drop, getD, length-append, length-set, length-take, length-drop}
 use lib.Seq.{sets, length-sets, length-take-le, drop-cons}
@@ -99,6 +98,14 @@ module _ (s : tie.Start) where
   counted : 4 + item .length ≡ length reply
   counted = ap (λ (n : ℕ). 4 + n) (sym size) ∙ sym (length-append first value) ∙ ap length together
 
+  -- the value asked for is the item's
+  abbrev held : List ℕ
+  held = valueAsked payload (s .args .meter) (s .args .forward .now) (s .args .reverse .now)
+
+  asked : item .length ≡ length held
+  unfolding itemAsked
+  asked = sym size ∙ rw (found .1)
+
   -- the value behind it, in the rest that is lent and comes back
   behind : (back : List ℕ) → back ≡ over value (take (length stored - 14) (drop 14 stored))
       → take 14 stored ++ (back ++ drop (length stored - 14) (drop 14 stored)) ≡ over (take 10 memory ++ reply) memory
@@ -129,45 +136,19 @@ wrote c =
 answer : (c : tie.After-write-value) → c .write-value .result ≡ Length (item (start-of c) .length)
 answer c = ap (λ (o : Outcome Held). o .answer) (wrote c)
 
-abbrev write-of : tie.After-known-told → tie.After-write-value
-write-of c = c .before .before .before .before .before
+-- the memory with all of the data at their place
+abbrev left : tie.After-write-value → List ℕ
+left c = let o = stored (start-of c) in take 14 o ++ (c .write-value .last .1 .1 .1 .1 .1 .0 ++ drop (length o - 14) (drop 14 o))
 
-many : (c : tie.After-known-told) → c .before .n .given .0 .0 ≡ item (start-of (write-of c)) .length
-many c =
-    let same : Length (c .before .n .given .0 .0) ≡ Length (item (start-of (write-of c)) .length) = sym (c .before .n .given .1) ∙ answer (write-of c) in
-    cc
-
--- the value is always written
-never : tie.At-match-keys2 → ⊥
-never c = ⊎-elim (λ e. omega arith) (λ e. omega arith) (rw (answer (c .before .before .before)) at (c .match .keys2))
-
-same-length : tie.Need-same-length
-same-length c = absurd (never c)
+placed : (c : tie.After-write-value) → let s = start-of c in left c ≡ over (take 10 (memory s) ++ reply s) (memory s)
+placed c = behind (start-of c) _ (ap (λ (o : Outcome Held). o .memory) (wrote c))
 
 returns : tie.Need-returns
-returns c = absurd (never c)
-
--- the memory with all of the data at their place
-abbrev left : tie.After-known-told → List ℕ
-left c =
-    let o = stored (start-of (write-of c)) in
-    take 14 o ++ (write-of c .write-value .last .1 .1 .1 .1 .1 .0 ++ drop (length o - 14) (drop 14 o))
-
-placed : (c : tie.After-known-told) → let s = start-of (write-of c) in left c ≡ over (take 10 (memory s) ++ reply s) (memory s)
-placed c = behind (start-of (write-of c)) _ (ap (λ (o : Outcome Held). o .memory) (wrote (write-of c)))
-
-add-result : tie.Need-add-result
-add-result c = omega (arith, many c, most (start-of (write-of c)))
-
-same-length-2 : tie.Need-same-length-2
-same-length-2 c = ap length (placed c) ∙ kept (start-of (write-of c))
-
-returns-2 : tie.Need-returns-2
-returns-2 c =
-    let s = start-of (write-of c) in
-    ap (λ (n : ℕ). outcome (4 + n) (left c)) (many c)
-    ∙ ap (λ (n : ℕ). outcome n (left c)) (counted s)
-    ∙ ap (λ (l : List ℕ). outcome (length (reply s)) l) (placed c)
+returns c =
+    let w = c .before .before in
+    let s = start-of w in
+    ap (λ (r : Held). outcome r (left w)) (answer w ∙ ap Length (asked s))
+    ∙ ap (λ (l : List ℕ). outcome (Length (length (held s))) l) (placed w)
 
 pub place-value-spec : {M : Type 1} → statement M
 place-value-spec =
@@ -185,9 +166,5 @@ place-value-spec =
     (λ c. simp length-set (omega arith))
     (λ c. search needs)
     (λ c κs. search needs)
-    (λ c. search needs)
-    same-length
-    returns
-    add-result
-    same-length-2
-    returns-2)
+    (λ c. ap length (placed (c .before .before)) ∙ kept (start-of (c .before .before)))
+    returns)

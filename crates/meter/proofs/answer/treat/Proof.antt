@@ -29,15 +29,15 @@ addressee : (c : tie.After-is-addressed) → let k = c .before .before .before i
 addressee c =
     rw (← address-field _ (at-start (c .before .before .before) .pre .0), ← c .before .address-of .ensures) (sym (c .is-addressed .ensures))
 
-abbrev entry : tie.After-take-data → tie.Start
+abbrev entry : tie.After-unmask-data → tie.Start
 entry c = at-start (c .before .before .before .before .before .before)
 
 -- the data fit the array, and are its front
-fits : (c : tie.After-take-data) → c .take-data .result ≤ length (c .take-data .last .1 .0)
-fits c = data-fits _ (entry c .pre .0) _ _ _ (c .take-data .ensures)
+fits : (c : tie.After-unmask-data) → c .unmask-data .result ≤ length (c .unmask-data .last .1 .0)
+fits c = data-fits _ (entry c .pre .0) _ _ _ (c .unmask-data .ensures)
 
-front : (c : tie.After-take-data) → take (c .take-data .result) (c .take-data .last .1 .0) ≡ dataOf (entry c .args .bytes .now)
-front c = data-front _ (entry c .pre .0) _ _ _ (c .take-data .ensures)
+front : (c : tie.After-unmask-data) → take (c .unmask-data .result) (c .unmask-data .last .1 .0) ≡ dataOf (entry c .args .bytes .now)
+front c = data-front _ (entry c .pre .0) _ _ _ (c .unmask-data .ensures)
 
 shared-slice-read-command-of : tie.Need-shared-slice-read-command-of
 shared-slice-read-command-of c = omega (arith, one-spans _ (c .before .before .before .pre .0))

@@ -52,10 +52,10 @@ allowed-of c = c .before .before
 abbrev frame-of : tie.After-is-answer → tie.Else3
 frame-of c = c .before .before .before .before
 
-abbrev parts-of : tie.After-take-data → tie.Else3
+abbrev parts-of : tie.After-unmask-data → tie.Else3
 parts-of c = frame-of (c .before .before .before)
 
-abbrev data-of : tie.After-judge-data → tie.After-take-data
+abbrev data-of : tie.After-judge-data → tie.After-unmask-data
 data-of c = c .before .before
 
 abbrev entry : tie.Else3 → tie.Start
@@ -89,11 +89,11 @@ unfolding callChecks frameChecks judgementOf
 answers c = no-check-left (check-holds (one-frame (frame-of (c .before))) (answer-test (c .before) ∙ not-false _ (c .if4 .left)))
 
 -- the data fit the array, and are its front
-fits : (c : tie.After-take-data) → c .take-data .result ≤ length (c .take-data .last .1 .0)
-fits c = data-fits (bytes (entry (parts-of c))) (one (parts-of c)) (replicate 200 0) _ _ (c .take-data .ensures)
+fits : (c : tie.After-unmask-data) → c .unmask-data .result ≤ length (c .unmask-data .last .1 .0)
+fits c = data-fits (bytes (entry (parts-of c))) (one (parts-of c)) (replicate 200 0) _ _ (c .unmask-data .ensures)
 
-front : (c : tie.After-take-data) → take (c .take-data .result) (c .take-data .last .1 .0) ≡ dataOf (bytes (entry (parts-of c)))
-front c = data-front (bytes (entry (parts-of c))) (one (parts-of c)) (replicate 200 0) _ _ (c .take-data .ensures)
+front : (c : tie.After-unmask-data) → take (c .unmask-data .result) (c .unmask-data .last .1 .0) ≡ dataOf (bytes (entry (parts-of c)))
+front c = data-front (bytes (entry (parts-of c))) (one (parts-of c)) (replicate 200 0) _ _ (c .unmask-data .ensures)
 
 -- the judgement is that of the frame's own parts
 decided : (c : tie.After-judge-data) → c .judge-data .result ≡ decision (entry (parts-of (data-of c)))

@@ -1,5 +1,5 @@
 -- Four stores put the four FE at the front. There is room for the data at their place behind them and for the frame around the data, so it
--- is sealed and the other way out is not taken.
+-- is written in place and the other way out is not taken.
 use Prim.Native.Nat.{ℕ, _+_, _-_, _≤_}
 use mathlib.Core.Path.{_≡_}
 use mathlib.Core.List.{List, _++_}
@@ -15,7 +15,7 @@ use Rattle.frame.specs.FrameLaws.{frame-for-length}
 use Rattle.frame_parts.specs.declared.Written.the-variants.{Length}
 use Rattle.reader.specs.Allowed.{RequestSized}
 use Rattle.reader.specs.Building.{wakeUp, sentData}
-use Rattle.reader.specs.BuildingLaws.{counted-length, data-placed, sealed-length, sealed-over}
+use Rattle.reader.specs.BuildingLaws.{counted-length, data-placed, in-place-length, in-place-over}
 use Rattle.reader.proofs.build.write_request.Statement.{statement}
 use Rattle.reader.proofs.build.write_request.Tie as tie
 
@@ -56,22 +56,22 @@ data-there c =
 behind-four : (c : tie.After-put-data) → 4 ≤ length (with-data c)
 behind-four c = rw (data-there c) (omega arith)
 
-abbrev data-of : tie.After-seal-frame → tie.After-put-data
+abbrev data-of : tie.After-write-frame-in-place → tie.After-put-data
 data-of c = c .before .before .before .before
 
--- the frame is sealed
-answered : (c : tie.After-seal-frame) → c .seal-frame .result ≡ Length (12 + length (bytes (start-of (data-of c))))
+-- the frame is written in place
+answered : (c : tie.After-write-frame-in-place) → c .write-frame-in-place .result ≡ Length (12 + length (bytes (start-of (data-of c))))
 answered c =
     let d = data-of c in
     let s = start-of d in
-    sealed-length (bytes s) (s .args .out .now) (few s) (s .pre .1) (s .args .address) (s .args .control) (six s) (with-data d) (data-there d) _
-    (d .put-data .ensures .count) _ _ (c .seal-frame .ensures)
+    in-place-length (bytes s) (s .args .out .now) (few s) (s .pre .1) (s .args .address) (s .args .control) (six s) (with-data d) (data-there d) _
+    (d .put-data .ensures .count) _ _ (c .write-frame-in-place .ensures)
 
 -- and stands behind the four FE
-abbrev left : tie.After-seal-frame → List ℕ
-left c = let o = with-data (data-of c) in take 4 o ++ (c .seal-frame .last .1 .1 .1 .0 ++ drop (length o - 4) (drop 4 o))
+abbrev left : tie.After-write-frame-in-place → List ℕ
+left c = let o = with-data (data-of c) in take 4 o ++ (c .write-frame-in-place .last .1 .1 .1 .0 ++ drop (length o - 4) (drop 4 o))
 
-put : (c : tie.After-seal-frame) → let s = start-of (data-of c) in
+put : (c : tie.After-write-frame-in-place) → let s = start-of (data-of c) in
     Puts (wakeUp ++ frameFor (s .args .address) (s .args .control) (bytes s)) (16 + length (bytes s)) (s .args .out .now) (left c)
 put c =
     let d = data-of c in
@@ -79,11 +79,11 @@ put c =
     record {
       count = omega (arith, frame-for-length (s .args .address) (s .args .control) (bytes s) (six s));
       memory =
-          sealed-over (bytes s) (s .args .out .now) (few s) (s .pre .1) (s .args .address) (s .args .control) (six s) (with-data d) (data-there d) _
-          (d .put-data .ensures .count) _ _ (c .seal-frame .ensures);
+          in-place-over (bytes s) (s .args .out .now) (few s) (s .pre .1) (s .args .address) (s .args .control) (six s) (with-data d) (data-there d) _
+          (d .put-data .ensures .count) _ _ (c .write-frame-in-place .ensures);
     }
 
-kept : (c : tie.After-seal-frame) → length (left c) ≡ length (start-of (data-of c) .args .out .now)
+kept : (c : tie.After-write-frame-in-place) → length (left c) ≡ length (start-of (data-of c) .args .out .now)
 kept c = let s = start-of (data-of c) in puts-kept (put c) (omega (arith, few s, s .pre .1))
 
 returns : tie.Need-returns

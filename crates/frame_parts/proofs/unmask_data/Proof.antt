@@ -10,26 +10,26 @@ use lib.ListN.{length, getD}
 use Rattle.frame.specs.Frame.{lengthOf, fieldOf, dataOf, unmasked}
 use Rattle.laws.specs.Memory.{outcome, over}
 use Rattle.laws.specs.Part.{part}
-use Rattle.frame_parts.specs.Parts.{hasData, dataTaken}
+use Rattle.frame_parts.specs.Parts.{hasData, dataUnmasked}
 use Rattle.frame_parts.specs.PartsLaws.{data-there}
-use Rattle.frame_parts.proofs.take_data.Statement.{statement}
-use Rattle.frame_parts.proofs.take_data.Tie as tie
+use Rattle.frame_parts.proofs.unmask_data.Statement.{statement}
+use Rattle.frame_parts.proofs.unmask_data.Tie as tie
 
 returns : tie.Need-returns
-unfolding dataTaken hasData
+unfolding dataUnmasked hasData
 returns c = rw (lt-leb 10 (length (c .before .before .args .bytes .now)) (c .if1 .taken))
 
 cast-length : tie.Need-cast-length
 cast-length c = omega (arith, c .shared-slice-known2 .given 9)
 
 returns-2 : tie.Need-returns-2
-unfolding dataTaken hasData lengthOf
+unfolding dataUnmasked hasData lengthOf
 returns-2 c =
     let bytes = c .before .before .before .before .args .bytes .now in
     rw (le-leb 10 (length bytes) (c .before .before .if1 .left), lt-leb (getD bytes 9 0) 200 (c .if2 .taken))
 
 returns-3 : tie.Need-returns-3
-unfolding dataTaken hasData lengthOf
+unfolding dataUnmasked hasData lengthOf
 returns-3 c =
     let bytes = c .before .before .before .before .before .args .bytes .now in
     rw (
@@ -49,8 +49,8 @@ returns-4 c =
     ap (λ (l : List ℕ). outcome (getD bytes 9 0) l) (c .unmask-field .ensures ∙ ap (λ (k : ℕ). over (map unmasked (part 10 k bytes)) m) lent)
     ∙ sym (data-there bytes (at-if3 .if3 .left) m (at-if3 .before .if2 .left))
 
-pub take-data-spec : {M : Type 1} → statement M
-take-data-spec =
+pub unmask-data-spec : {M : Type 1} → statement M
+unmask-data-spec =
     tie.close
     (tie.spec
     returns

@@ -2,9 +2,9 @@
 use mathlib.Core.Path.{_≡_, _∙_}
 use borrow.Author.Needs.{needs}
 use lib.ListN.{length}
-use Rattle.frame_parts.specs.WritingLaws.{closed}
-use Rattle.frame_parts.proofs.close_frame.Statement.{statement}
-use Rattle.frame_parts.proofs.close_frame.Tie as tie
+use Rattle.frame_parts.specs.WritingLaws.{around}
+use Rattle.frame_parts.proofs.write_around.Statement.{statement}
+use Rattle.frame_parts.proofs.write_around.Tie as tie
 
 -- the address field has six bytes
 six-bytes : (c : tie.Start) → length (c .args .address) ≡ 6
@@ -16,10 +16,10 @@ returns c =
     let at-head = at-end .before .before .before .before in
     let s = at-head .before .before .before in
     at-end .write-end .ensures
-    ∙ closed (s .args .address) (s .args .control) (s .args .count) (s .args .out .now) (six-bytes s) (s .pre .1) (at-head .write-head .ensures)
+    ∙ around (s .args .address) (s .args .control) (s .args .count) (s .args .out .now) (six-bytes s) (s .pre .1) (at-head .write-head .ensures)
 
-pub close-frame-spec : {M : Type 1} → statement M
-close-frame-spec =
+pub write-around-spec : {M : Type 1} → statement M
+write-around-spec =
     tie.close
     (tie.spec
     (λ c. search needs)
