@@ -1,34 +1,40 @@
 #!/usr/bin/env python3
 """The reading of the line, written from document 01 alone, and a hard recorded line for the program run_blocks.
-It runs from the root of the repository:
 
     python3 tests/line_model.py write       writes crates/run_blocks/stdin and stdout
-    python3 tests/line_model.py selftest
+    python3 tests/line_model.py selftest    puts document 01's cases and short random lines to the model
 
-It shares nothing with the Rattle sources. `write` makes the line, from a fixed seed, and works out the frames taken in it; `selftest` puts
-the line parts of document 01's cases A, C, F, G, H and I to the model, and is quiet when they agree.
+It shares nothing with the Rattle sources. `write` makes the line, from a fixed seed, and works out the frames taken in
+it; `selftest` is quiet when all agree.
 """
+import itertools
 import random
 import sys
 
 sys.dont_write_bytecode = True  # no compiled copies beside the sources
 
-from wire import frame, listed, parse
+import command
+from printed import A, A_LISTED, B, C, C_LISTED, D, E, E_ON, I_WRONG
+from wire import frame, frame_around, listed, parse
 
-FOLDER = "crates/run_blocks/"
 SILENCE = None  # the other symbols are bytes
+WAKE_UP = [0xFE] * 4
+MOST_FRAME = 212  # bytes of a frame
+MOST_KEPT = MOST_FRAME - 1  # bytes of an unfinished one
 
 
-# ---- document 01, "Reading of the line" --------------------------------------------------------------------------------
+# ---- document 01, "Reading of the line": taken -----------------------------------------------------------------------
 def stands(line, place):
-    """The length of the frame that stands at a place, or None: the symbols from there are all the bytes of a frame, with no silence among them."""
-    if line[place] != 0x68:
+    """The length of the frame that stands at a place, or None.
+
+    One stands there if the symbols from there are all the bytes of a frame, with no silence among them. Its tenth byte
+    is L, so it can have no other length than 12 and L.
+    """
+    if line[place] != 0x68 or len(line) < place + 12 or line[place + 9] is SILENCE:
         return None
-    for length in range(12, 213):
-        symbols = line[place:place + length]
-        if len(symbols) == length and SILENCE not in symbols and parse(symbols) is not None:
-            return length
-    return None
+    length = 12 + line[place + 9]
+    symbols = line[place:place + length]
+    return length if SILENCE not in symbols and parse(symbols) is not None else None
 
 
 def covers(start, length, place):
@@ -37,20 +43,84 @@ def covers(start, length, place):
 
 
 def taken(line):
-    """The places and lengths of the frames taken: one standing at a place is taken exactly if no taken frame that began earlier covers it."""
+    """The frames taken, each as its place and length: one standing at a place is taken exactly if no taken frame that
+    began earlier covers that place. One that began more than 211 places earlier has ended before it."""
     chosen = []
     for place in range(len(line)):
         length = stands(line, place)
-        if length is not None and not any(start < place and covers(start, n, place) for start, n in chosen):
-            chosen.append((place, length))
+        if length is not None:
+            near = itertools.takewhile(lambda found: place - found[0] < MOST_FRAME, reversed(chosen))
+            if not any(covers(start, n, place) for start, n in near):
+                chosen.append((place, length))
     return chosen
 
 
-# ---- pieces of a hard line ---------------------------------------------------------------------------------------------
+def frames_at(line, frames):
+    """The bytes of each of these frames of the line."""
+    return [line[place:place + length] for place, length in frames]
+
+
+# ---- document 01, "Reading of the line": certain ---------------------------------------------------------------------
+def completed(symbols):
+    """A frame that begins with these symbols and has more, or None where there is none.
+
+    So the symbols are a proper beginning of a frame exactly if the answer is a frame. A frame's other bytes follow from
+    its address, control and data: what the symbols have of these is taken from them, the rest may be anything and is
+    zero, and L is zero where they end before it.
+    """
+    if SILENCE in symbols:
+        return None
+    length = symbols[9] if len(symbols) > 9 else 0
+    if length > 200:
+        return None
+    parts = symbols + [0] * (10 + length)
+    whole = frame_around(parts[1:7], parts[8], parts[10:10 + length])
+    return whole if len(whole) > len(symbols) and whole[:len(symbols)] == symbols else None
+
+
+def open_places(line):
+    """The places from which the symbols up to the end are a proper beginning of a frame."""
+    return [place for place in range(max(0, len(line) - MOST_KEPT), len(line)) if completed(line[place:]) is not None]
+
+
+def certain(line):
+    """The frames certain after a list of symbols: those taken, at the same place, in every list that begins with it.
+
+    It tries the list itself and, for each place that is still open, the list completed to a frame there. These are
+    enough. A frame that stands in the list stands in every longer one too. Say that the choice of a longer list first
+    differs at a place: there it takes a frame that does not stand in the list, so this frame ends behind the list, its
+    place is open, no frame taken before covers it, and of the list's frames it covers all that begin later; those that
+    began earlier are taken still. Now complete the list at that place. Either the frame there is taken, and covers the
+    same; or the choice has differed earlier, by a frame that ends behind the list too, and covers these and more. So a
+    frame that any longer list loses is lost in one of those tried.
+    """
+    tried = [line] + [line[:place] + completed(line[place:]) for place in open_places(line)]
+    choices = [set(taken(longer)) for longer in tried]
+    return [found for found in taken(line) if all(found in choice for choice in choices)]
+
+
+def settled(line, symbol):
+    """The frames that became certain with one symbol more: those certain after it and not before it."""
+    before = certain(line)
+    return [found for found in certain(line + [symbol]) if found not in before]
+
+
+def kept(line):
+    """The bytes of the unfinished frame that has to be kept: all from the first place on that may still become a frame
+    and that no taken frame covers."""
+    chosen = taken(line)
+    for place in open_places(line):
+        if not any(covers(start, length, place) for start, length in chosen):
+            return line[place:]
+    return []
+
+
+# ---- pieces of a hard line -------------------------------------------------------------------------------------------
 class Maker:
     """Makes pieces of a line, the same for the same seed."""
 
     def __init__(self, seed):
+        """A maker of these pieces, from a seed."""
         self.random = random.Random(seed)
 
     def some(self, n):
@@ -68,7 +138,7 @@ class Maker:
     def around(self, inner, more=0):
         """A frame whose data field has these bytes as they stand on the line, and some more."""
         field = inner + self.some(more)
-        return frame(self.some(6), self.random.randrange(256), [(b - 0x33) & 0xFF for b in field])
+        return frame_around(self.some(6), self.random.randrange(256), field)
 
     def damaged(self, bytes_, how):
         """A frame with one byte that it cannot have."""
@@ -97,9 +167,42 @@ class Maker:
             outer[1] ^= 1
         return outer + inner[inside + 2:]
 
+    def few(self, bytes_, n):
+        """So many bytes out of a few."""
+        return [self.random.choice(bytes_) for _ in range(n)]
+
+    def small(self, depth=0):
+        """A small frame, mostly with another in its data, which may have a third; many bytes are 68, 16, or C9, an L
+        too large by one."""
+        inner = self.small(depth + 1) if depth < 2 and self.random.random() < 0.6 else []
+        more = self.few((0x33, 0x68, 0x16, 0x00), self.random.choice((0, 0, 1, 4, 9)))
+        address = self.few((0x00, 0x68, 0x16, 0x01, 0xAA, 0xC9), 6)
+        return frame_around(address, self.random.choice((0x11, 0x91, 0x68)), inner + more)
+
+    def spoilt(self, bytes_):
+        """A frame with one fault: another byte, a byte less, a silence in it, a wrong checksum. Or with none."""
+        symbols, what = list(bytes_), self.random.random()
+        if what < 0.3:
+            byte = self.random.choice((0x68, 0x16, 0x00, 0xC9))
+            symbols[self.random.randrange(len(symbols))] = byte
+        elif what < 0.5:
+            del symbols[self.random.randrange(len(symbols))]
+        elif what < 0.6:
+            symbols.insert(self.random.randrange(len(symbols)), SILENCE)
+        elif what < 0.7:
+            symbols[-2] = (symbols[-2] + 1) & 0xFF
+        return symbols
+
+    def short_line(self, frames):
+        """A line of so many small frames, some of them spoilt, some behind wake-up bytes; a silence may end it."""
+        line = []
+        for _ in range(frames):
+            line += self.random.choice(([], [], WAKE_UP))
+            line += self.spoilt(self.small())
+        return line + ([SILENCE] if self.random.random() < 0.5 else [])
+
 
 HOWS = ["checksum", "last byte", "second start", "length"]
-WAKE_UP = [0xFE] * 4
 
 
 def trouble(make, kind, turn):
@@ -135,15 +238,17 @@ KINDS = [
 
 
 def unfinished(make):
-    """The beginning of a frame of 200 data bytes, with whole frames in its data, and of which its last bytes are missing."""
+    """The beginning of a frame of 200 data bytes, with whole frames in its data; its last bytes are missing."""
     inner = make.whole(5) + WAKE_UP + make.whole(0) + [0x68] + make.whole(40) + make.whole(17)
     return make.around(inner, 200 - len(inner))[:205]
 
 
+# ---- the line of run_blocks ------------------------------------------------------------------------------------------
 def recorded():
-    """The line: frames of every length, in an order of no rule, with trouble between them; long stretches; and an unfinished frame."""
+    """The line: frames of every length, in an order of no rule, with trouble between them; long stretches; and an
+    unfinished frame."""
     make = Maker(645)
-    line = WAKE_UP + frame([1, 0, 0, 0, 0, 0], 0x11, [0x00, 0x00, 0x01, 0x00])
+    line = WAKE_UP + A
     lengths = list(range(201))
     make.random.shuffle(lengths)
     for turn, length in enumerate(lengths):
@@ -161,7 +266,7 @@ def recorded():
 
 def output(line):
     """What the program must write of the line."""
-    frames = [line[place:place + length] for place, length in taken(line)]
+    frames = frames_at(line, taken(line))
     return [listed(f) for f in frames] + [
         "%d frames, %d bytes" % (len(frames), sum(len(f) for f in frames)),
         "one block: the same",
@@ -177,44 +282,84 @@ def output(line):
     ]
 
 
-def write():
+def files():
+    """The stored files of run_blocks."""
     line = recorded()
     assert len(line) < 32768, len(line)
-    with open(FOLDER + "stdin", "wb") as out:
-        out.write(bytes(line))
-    with open(FOLDER + "stdout", "w") as out:
-        out.write("".join(text + "\n" for text in output(line)))
+    return {"crates/run_blocks/stdin": bytes(line), "crates/run_blocks/stdout": command.lines(output(line))}
 
 
-# ---- the model against document 01's cases -----------------------------------------------------------------------------
-def selftest():
-    a = list(bytes.fromhex("68 01 00 00 00 00 00 68 11 04 33 33 34 33 B3 16"))
-    c = list(bytes.fromhex("68 AA AA AA AA AA AA 68 13 00 DF 16"))
-    wrong = list(bytes.fromhex("68 01 00 00 00 00 00 68 11 04 33 33 34 33 B4 16"))
-    # A and C, each behind wake-up bytes, and their lines of the listing.
-    assert taken(WAKE_UP + a) == [(4, 16)]
-    assert listed(a) == "000000000001 11 00000100"
-    assert taken(WAKE_UP + c) == [(4, 12)]
-    assert listed(c) == "AAAAAAAAAAAA 13"
-    # F: a lone 68 and then A.
-    assert taken([0x68] + a) == [(1, 16)]
-    # G: A with a silence before its last byte; as one line, and as two.
-    assert taken(a[:-1] + [SILENCE] + a[-1:]) == []
-    assert taken(a[:-1]) == [] and taken(a[-1:]) == []
-    # H: A without its last byte.
-    assert taken(a[:-1] + [SILENCE]) == []
+def write():
+    """Writes the stored files of run_blocks."""
+    command.write(files())
+
+
+# ---- the model against document 01 -----------------------------------------------------------------------------------
+def selftest_cases():
+    """Document 01's cases A to I, as lines, and a few lines more whose frames can be told by hand."""
+    # A to E, each behind wake-up bytes and bare; the lines of A and C in the listing.
+    for case in (A, B, C, D, E, E_ON):
+        assert taken(WAKE_UP + case) == certain(WAKE_UP + case) == [(4, len(case))]
+        assert taken(case) == certain(case) == [(0, len(case))]
+        assert kept(case) == []
+    assert listed(A) == A_LISTED and listed(C) == C_LISTED
+    # F: a lone 68 and then A, which is certain with its last byte.
+    assert taken([0x68] + A) == certain([0x68] + A) == settled([0x68] + A[:-1], 0x16) == [(1, 16)]
+    # G: A with a silence before its last byte. None, and none later.
+    g = A[:-1] + [SILENCE, 0x16]
+    assert taken(g) == certain(g) == certain(g + [SILENCE]) == [] and kept(g) == []
+    # H: A without its last byte. None yet; with 16 behind it A, and with a silence none.
+    h = A[:-1]
+    assert taken(h) == certain(h) == certain(h + [SILENCE]) == [] and kept(h) == h
+    assert certain(h + [0x16]) == settled(h, 0x16) == [(0, 16)]
     # I: A with checksum B4, then A.
-    assert taken(wrong + a) == [(16, 16)]
+    assert taken(I_WRONG + A) == certain(I_WRONG + A) == [(16, 16)]
+    assert kept(I_WRONG[:-2]) == I_WRONG[:-2] and kept(I_WRONG[:-1]) == []
     # A frame in a whole one is covered, in a damaged one it is taken; two frames end to end are both taken.
     make = Maker(1)
-    outer = make.around(a)
-    assert taken(outer) == [(0, 28)]
+    outer = make.around(A)
+    assert taken(outer) == certain(outer) == [(0, 28)]
     assert taken(make.damaged(outer, "last byte")) == [(10, 16)]
-    assert taken(a + c) == [(0, 16), (16, 12)]
+    assert taken(A + C) == certain(A + C) == [(0, 16), (16, 12)]
+    # While the outer one may still complete, the inner one is taken in what there is, but not certain.
+    assert taken(outer[:-1]) == [(10, 16)] and certain(outer[:-1]) == [] and kept(outer[:-1]) == outer[:-1]
+    assert settled(outer[:-1], 0x16) == [(0, 28)]
+    assert settled(outer[:-1], 0x17) == settled(outer[:-1], SILENCE) == [(10, 16)]
+    # L is at most 200; an eighth byte has to be 68.
+    assert completed(A[:9]) is not None and completed(A[:9] + [200]) is not None and completed(A[:9] + [201]) is None
+    assert completed(A[:7]) is not None and completed(A[:7] + [0x69]) is None
+    assert completed(A) is None and completed(A + [0x68]) is None
+
+
+def selftest_random():
+    """On short lines rich in 68: what document 01 says of certain frames, and that the bytes kept are enough."""
+    make = Maker(2007)
+    for _ in range(150):
+        line = make.short_line(2)
+        # With a symbol more none is lost; those certain are taken; behind a silence all those taken are certain.
+        before = []
+        for n in range(len(line) + 1):
+            now = certain(line[:n])
+            assert now[:len(before)] == before
+            before = now
+        assert set(before) <= set(taken(line))
+        assert certain(line + [SILENCE]) == taken(line)
+        # No continuation loses one; and what comes after is read from the bytes kept.
+        rest = kept(line)
+        gone = len(line) - len(rest)
+        assert len(rest) <= MOST_KEPT and certain(rest) == []
+        ends = [completed(line[place:])[len(line) - place:] for place in open_places(line)]
+        for more in ends + [make.few((0x68, 0x16, 0x00), 20), make.short_line(1), make.short_line(2)]:
+            assert set(before) <= set(taken(line + more))
+            later = [(gone + place, length) for place, length in certain(rest + more)]
+            assert certain(line + more) == before + later
+
+
+def selftest():
+    """Puts document 01's cases and random lines to the model."""
+    selftest_cases()
+    selftest_random()
 
 
 if __name__ == "__main__":
-    calls = {"write": write, "selftest": selftest}
-    if len(sys.argv) != 2 or sys.argv[1] not in calls:
-        sys.exit(__doc__)
-    calls[sys.argv[1]]()
+    command.run(__doc__, {"write": write, "selftest": selftest})

@@ -1,4 +1,5 @@
-"""A second reader's end, written from document 01 alone: requests, the judging of replies, and an exchange with a meter.
+"""A second reader's end, written from document 01 alone: requests, the judging of replies, and an exchange with a
+meter. Only imported.
 
 An answer is a pair: ("refused", number), ("request", bytes), ("value", bytes) or ("error", byte).
 """
@@ -34,6 +35,7 @@ def allowed(r):
 
 
 def request_frame(r):
+    """The frame of a request."""
     if r.kind == READ_ADDRESS:
         return frame([0xAA] * 6, READ_ADDRESS, [])
     if r.kind == READ:
@@ -42,6 +44,7 @@ def request_frame(r):
 
 
 def build(r, memory):
+    """What building a request comes to with so many bytes of memory: four FE and its frame, or a refusal."""
     if memory < 66:
         return "refused", 1
     if not allowed(r):
@@ -62,6 +65,7 @@ def answers(r, address, control):
 
 
 def judge(r, bytes_, memory):
+    """What judging a reply, in bytes, against a request comes to with so many bytes of memory."""
     if memory < 196:
         return "refused", 1
     if not allowed(r):

@@ -1,4 +1,5 @@
-"""The calls of the script that use the reader's end: requests built, replies judged, exchanges with a meter, and a working day."""
+"""The calls of the script that use the reader's end: requests built, replies judged, exchanges with a meter, and a
+working day. Only imported."""
 from reader_model import LENT
 from scripts import AA, FULL, ONE, ZERO3, ZERO4, fresh, title
 from wire import di, frame, hexed
@@ -24,20 +25,24 @@ UNLISTED = (0x00010500, 0x0001000D, 0x0001FF0D, 0x000105FF, 0x0001FFFF, 0x0002FF
             0x04000C01, 0x04010101)
 
 
-# ---- calls -------------------------------------------------------------------------------------------------------------
+# ---- calls -----------------------------------------------------------------------------------------------------------
 def ask(kind, address, identifier, level=0, password=ZERO3, operator=ZERO4, value=()):
+    """The request of the calls that follow."""
     print("request " + hexed([kind] + address + di(identifier)[::-1] + [level] + password + operator + list(value)))
 
 
 def ask_read(identifier=TOTAL, address=FULL):
+    """A request to read."""
     ask(0x11, address, identifier)
 
 
 def ask_address():
+    """A request to read the address."""
     ask(0x13, AA, 0)
 
 
 def ask_write(identifier=PERIOD, value=(0x30,), address=FULL, level=4, password=ZERO3, operator=ZERO4):
+    """A request to write."""
     ask(0x14, address, identifier, level, password, operator, value)
 
 
@@ -47,33 +52,40 @@ def low(k, address=FULL):
 
 
 def build_read(identifier=TOTAL, address=FULL):
+    """A request to read, built."""
     ask_read(identifier, address)
     print("build")
 
 
 def build_write(*parts, **named):
+    """A request to write, built."""
     ask_write(*parts, **named)
     print("build")
 
 
 def judge(bytes_):
+    """A reply, in bytes, judged against the request."""
     print(("judge " + hexed(bytes_)).rstrip())
 
 
 def reply(control, data, address=FULL):
+    """A reply judged, from its parts."""
     judge(frame(address, control, data))
 
 
 def tell(address, control, data):
+    """A frame put to the meter; both it and the reply as lines of the listing."""
     print("tell " + hexed(frame(address, control, data)))
 
 
 def memory(n):
+    """How much memory is lent from now on."""
     print("memory %d" % n)
 
 
-# ---- requests built ----------------------------------------------------------------------------------------------------
+# ---- requests built --------------------------------------------------------------------------------------------------
 def builder():
+    """Requests built: all that are allowed by kind, each reason for a refusal, and two at once."""
     title("build, memory of 66: reads of single readings in both directions, to a full address")
     fresh(key=False)
     memory(66)
@@ -189,8 +201,9 @@ def builder():
     build_write(0x0001FFFF, [0xAA] * 39, address=AA, level=0xFF)
 
 
-# ---- replies judged ----------------------------------------------------------------------------------------------------
+# ---- replies judged --------------------------------------------------------------------------------------------------
 def judging():
+    """Replies judged: all answers by kind, each reason for a refusal, and two at once."""
     values = [0x00, 0x25, 0x99, 0x10]
     single = di(TOTAL) + values
 
@@ -445,8 +458,9 @@ def judging():
     reply(0x93, NINES)
 
 
-# ---- exchanges ---------------------------------------------------------------------------------------------------------
+# ---- exchanges -------------------------------------------------------------------------------------------------------
 def lent(*sizes):
+    """How much memory of each of the four an exchange is lent; without sizes, the least."""
     print("lent %d %d %d %d" % (sizes or LENT))
 
 
@@ -457,21 +471,25 @@ def one_too_small():
 
 
 def exchange_read(identifier=TOTAL, address=FULL):
+    """A read exchanged with the meter."""
     ask_read(identifier, address)
     print("exchange")
 
 
 def exchange_write(*parts, **named):
+    """A write exchanged with the meter."""
     ask_write(*parts, **named)
     print("exchange")
 
 
 def exchange_address():
+    """A read of the address exchanged with the meter."""
     ask_address()
     print("exchange")
 
 
 def refused_exchanges():
+    """Exchanges refused, for each reason and for two at once, and those that end in silence."""
     title("exchange, 16 before 1: a reading, a register and the address out of range, and each size one too small")
     fresh()
     print("reading 1 12 4 100000000")
@@ -560,7 +578,7 @@ def refused_exchanges():
     tell(AA, 0x13, [])
 
 
-# ---- a working day -----------------------------------------------------------------------------------------------------
+# ---- a working day ---------------------------------------------------------------------------------------------------
 OVEN = [0x78, 0x56, 0x34, 0x00, 0x00, 0x11]
 COMPRESSOR = [0x78, 0x56, 0x34, 0x00, 0x00, 0x12]
 MOVED = [0x78, 0x56, 0x34, 0x00, 0x00, 0x13]
@@ -569,10 +587,12 @@ CLERK = [0x2A, 0xFF, 0x00, 0x01]
 
 
 def pulse(amount, direction, rate):
+    """A pulse."""
     print("pulse %d %d %d" % (amount, direction, rate))
 
 
 def oven_day():
+    """A working day of the first meter."""
     title("06:00 the oven's meter 110000345678 is new; the reading head asks who is there")
     fresh(OVEN, key=False)
     exchange_address()
@@ -653,6 +673,7 @@ def oven_day():
 
 
 def compressor_day():
+    """What is left of the day, with the second meter."""
     title("15:00 the compressor's meter 120000345678 takes its place on the wires: the same low digits, its own record")
     fresh(COMPRESSOR, key=False)
     exchange_address()
@@ -686,6 +707,7 @@ def compressor_day():
 
 
 def script():
+    """Prints these calls."""
     builder()
     judging()
     refused_exchanges()

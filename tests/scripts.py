@@ -1,7 +1,6 @@
-"""The calls of the script that put frames to the meter, and the functions that write them."""
+"""The calls of the script that put frames to the meter, and the functions that write them. Only imported."""
+from printed import manual_frames
 from wire import REGISTERS, di, frame, hexed
-
-MANUAL = "tests/manual_frames.tsv"
 
 ONE = [0x01, 0, 0, 0, 0, 0]
 FULL = [0x12, 0x34, 0x56, 0x78, 0x90, 0x12]
@@ -10,36 +9,39 @@ ZERO3, ZERO4 = [0, 0, 0], [0, 0, 0, 0]
 
 
 def put(f):
+    """Bytes put to the meter."""
     print("frame " + hexed(f))
 
 
 def fresh(address=FULL, key=True):
+    """A fresh meter, mostly with the key on."""
     print("meter " + hexed(address))
     if key:
         print("key 1")
 
 
 def read(identifier, address=FULL):
+    """A read put to the meter."""
     put(frame(address, 0x11, di(identifier)))
 
 
 def write(identifier, value, level=4, password=ZERO3, operator=ZERO4, address=FULL):
+    """A write put to the meter."""
     put(frame(address, 0x14, di(identifier) + [level] + password + operator + value))
 
 
 def title(text):
+    """A comment of the script."""
     print("# " + text)
 
 
 def manual():
+    """The manual's complete example frames, misprinted ones too."""
     title("the manual's frames, each to a fresh meter 000000000001")
-    for line in open(MANUAL, encoding="utf-8"):
-        if line.startswith("#"):
-            continue
-        number_, _label, bytes_ = line.rstrip("\n").split("\t")[:3]
+    for number_, bytes_ in manual_frames():
         print("# line " + number_)
         fresh(ONE, key=False)
-        print("frame " + bytes_)
+        put(bytes_)
 
 
 def order():
@@ -219,6 +221,7 @@ def edges():
     """The edge values of every range, written and read back."""
 
     def tries(name, identifier, values):
+        """Values written into an item, each read back."""
         title(name)
         fresh()
         for v in values:
@@ -295,6 +298,7 @@ def counting():
 
 
 def script():
+    """Prints these calls."""
     manual()
     order()
     edges()

@@ -1,11 +1,25 @@
-"""Frames, lines of the listing, and the table of items, as document 01 gives them. Both ends of the model use them."""
+"""Frames, lines of the listing, and the table of items, as document 01 gives them. Only imported."""
 
 
-# ---- frames ------------------------------------------------------------------------------------------------------------
-def frame(address, control, data):
-    """The bytes of a frame; address and data as lists of bytes in the order of the wire, data not masked."""
-    body = [0x68] + address + [0x68, control, len(data)] + [(b + 0x33) & 0xFF for b in data]
+# ---- frames ----------------------------------------------------------------------------------------------------------
+def head(address, control, length):
+    """The first ten bytes of a frame that says so many data bytes; the address in the order of the wire."""
+    return [0x68] + address + [0x68, control, length]
+
+
+def ended(body):
+    """These bytes, from the first 68 to the last data byte, and behind them their checksum and the last byte."""
     return body + [sum(body) & 0xFF, 0x16]
+
+
+def frame_around(address, control, field):
+    """The bytes of a frame whose data bytes are these as they travel."""
+    return ended(head(address, control, len(field)) + field)
+
+
+def frame(address, control, data):
+    """The bytes of a frame; data as a list of bytes in the order of the wire, not masked."""
+    return frame_around(address, control, [(b + 0x33) & 0xFF for b in data])
 
 
 def parse(bytes_):
@@ -19,6 +33,7 @@ def parse(bytes_):
 
 
 def hexed(bytes_):
+    """Bytes in hexadecimal, in capitals, with a blank between two."""
     return " ".join("%02X" % b for b in bytes_)
 
 
@@ -29,16 +44,19 @@ def listed(bytes_):
     return " ".join("".join("%02X" % b for b in word) for word in words)
 
 
-# ---- items -------------------------------------------------------------------------------------------------------------
+# ---- items -----------------------------------------------------------------------------------------------------------
 def decimal(bytes_):
+    """Whether every half byte is 0 to 9."""
     return all(b & 15 <= 9 and b >> 4 <= 9 for b in bytes_)
 
 
 def number(b):
+    """The number that a byte of two digits is."""
     return (b >> 4) * 10 + (b & 15)
 
 
 def packed(n, length):
+    """A number of at most twelve digits as so many bytes of packed decimal, low byte first."""
     return [int(("%012d" % n)[12 - 2 * i - 2:12 - 2 * i], 16) for i in range(length)]
 
 
@@ -48,6 +66,7 @@ def di(identifier):
 
 
 def good(address):
+    """Whether an address is good: decimal, and not the broadcast address."""
     return decimal(address) and address != [0x99] * 6
 
 
