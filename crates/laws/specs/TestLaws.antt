@@ -4,9 +4,14 @@ use mathlib.Core.Bool.{Bool, true, false, _&&_, false≢true}
 use Rattle.laws.specs.Test.{pick}
 
 -- What holds of both ways out of a test holds of what it picks.
-pub pick-cases : {A : Type 0} (P : A → Type 0) (t : Bool) {a b : A} → (t ≡ true → P a) → (t ≡ false → P b) → P (pick t a b)
+pub pick-cases {ℓ} : {A : Type 0} (P : A → Type ℓ) (t : Bool) {a b : A} → (t ≡ true → P a) → (t ≡ false → P b) → P (pick t a b)
 pick-cases P true first second = first refl
 pick-cases P false first second = second refl
+
+-- What is picked where both are the same.
+pub pick-same : {A : Type 0} (t : Bool) {a : A} → pick t a a ≡ a
+pick-same true = refl
+pick-same false = refl
 
 -- Which of two that differ was picked says what the test gave.
 pub picked-first : {A : Type 0} (t : Bool) {a b x : A} → (b ≡ x → false ≡ true) → pick t a b ≡ x → (t ≡ true) × (a ≡ x)

@@ -10,7 +10,7 @@ use lib.ListN.{length, take, drop, length-append, length-drop, length-replicate}
 use lib.Seq.{take-append-seam}
 use lib.Dec.{leb}
 use borrow.Author.Tests.{leb-true, leb-false}
-use Rattle.laws.specs.Memory.{Outcome, outcome}
+use Rattle.laws.specs.Memory.{Outcome, outcome, over}
 use Rattle.laws.specs.Test.{pick}
 use Rattle.frame.specs.Recognition.{recognised}
 use Rattle.frame.specs.RecognitionLaws.{open-most}
@@ -110,12 +110,11 @@ called-within : {x : List Symbol} {r : Receiver} (s : Symbol) (m : List ℕ) →
 unfolding called
 called-within s m h = rw (received-within h)
 
--- What a call answers: refused with 1 under 212 bytes of memory, and nothing changed; else the new frames, handed on.
+-- What a call answers: refused with 1 under 212 bytes of memory, and nothing changed; else the new frames, over the front of the memory.
 pub data Answers (x : List Symbol) (s : Symbol) (r : Receiver) (m : List ℕ) (returned : Received) (left : List ℕ) : Type 0 where
   ignores : length m < 212 → returned .answer ≡ Refused 1 → returned .receiver ≡ r → left ≡ m → Answers x s r m returned left
   delivers : 212 ≤ length m → returned .answer ≡ Delivered (length (joined (newFrames x s))) (length (newFrames x s)) →
-      HasReceived (x ++ (s ∷ [])) (returned .receiver) → take (length (joined (newFrames x s))) left ≡ joined (newFrames x s) →
-      Answers x s r m returned left
+      HasReceived (x ++ (s ∷ [])) (returned .receiver) → left ≡ over (joined (newFrames x s)) m → Answers x s r m returned left
 
 pub answers : {x : List Symbol} {s : Symbol} {r : Receiver} {m : List ℕ} {returned : Received} {left : List ℕ} → HasReceived x r →
     outcome returned left ≡ called s r m → Answers x s r m returned left
@@ -128,7 +127,7 @@ answers {x} {s} {r} {m} {returned} {left} h e = go (leb 212 (length m)) refl (e 
         delivers (leb-true _ _ l)
         (ap (λ (o : Outcome Received). o .answer .answer) q ∙ rw (reads-joined s h, reads-count s h))
         (rw (ap (λ (o : Outcome Received). o .answer .receiver) q) (keeping-received (readingWith r s .kept) h (reads-kept s h)))
-        (rw (ap (λ (o : Outcome Received). o .memory) q, reads-joined s h) (take-append-seam (joined (newFrames x s)) _))
+        (ap (λ (o : Outcome Received). o .memory) q ∙ ap (λ (l : List ℕ). over l m) (reads-joined s h))
     go false l q =
         ignores (leb-false _ _ l) (ap (λ (o : Outcome Received). o .answer .answer) q) (ap (λ (o : Outcome Received). o .answer .receiver) q)
         (ap (λ (o : Outcome Received). o .memory) q)

@@ -3,16 +3,19 @@ use Prim.Native.Nat.{ℕ, _≤_, _<_}
 use native.Mathlib.Omega.{arith}
 use mathlib.Core.Path.{_≡_, sym, subst}
 use mathlib.Core.Logic.{_↔_}
-use mathlib.Core.List.{List, [], _∷_, _++_, List·Memᴰ}
+use mathlib.Core.List.{List, [], _∷_, _++_}
 use lib.ListN.{length, take}
-use Rattle.laws.specs.Memory.{outcome, LeftAlone}
+use lib.Seq.{take-append-seam}
+use Rattle.laws.specs.Memory.{outcome, over, LeftAlone}
 use Rattle.line_terms.specs.Line.{Symbol, Certain}
-use Rattle.line_terms.specs.Places.{Found, Rising, joined}
+use Rattle.line_terms.specs.OneChoice.{OneChoice, one-choice}
+use Rattle.line_terms.specs.Rest.{RestOf}
+use Rattle.line_terms.specs.RestLaws.{scan-rest}
+use Rattle.line_terms.specs.Places.{joined, Exactly}
 use Rattle.line_terms.specs.Scan.{scan}
-use Rattle.line_terms.specs.ScanLaws.{scan-rising}
-use Rattle.line_terms.specs.ScanCertain.{found-certain, certain-found}
+use Rattle.line_terms.specs.ScanCertain.{certain-frames}
 use Rattle.line.specs.CallLaws.{newFrames, new-rising, new-certain, certain-new, HasReceived, received-most, fresh-received, Answers, ignores, delivers, answers, After, after-none, after-then, after-one}
-use Rattle.line.specs.Receiver.{fresh, called}
+use Rattle.line.specs.Receiver.{fresh, keptBytes, called}
 use Rattle.line.specs.declared.Receiver.{Receiver}
 use Rattle.line.specs.declared.Received.{Received}
 use Rattle.line.specs.declared.Answer.{Answer}
@@ -55,12 +58,6 @@ abbrev pub deliveredBytes : List ReceiverCall → List ℕ
 deliveredBytes [] = []
 deliveredBytes (c ∷ cs) = deliveredBy (c .returned .answer) (c .left) ++ deliveredBytes cs
 
--- A strictly rising list of places and frames whose members are exactly those that `member` has.
-pub record Exactly (member : ℕ → List ℕ → Type 1) : Type 1 where
-  pub frames : List Found
-  pub rising : Rising frames
-  pub exact : (place : ℕ) (frame : List ℕ) → List·Memᴰ (record { place = place; frame = frame }) frames ↔ member place frame
-
 -- Certain after a symbol and not before it.
 abbrev pub Newly : List Symbol → Symbol → ℕ → List ℕ → Type 1
 Newly line s place frame = Certain (line ++ (s ∷ [])) place frame × (Certain line place frame → ⊥)
@@ -76,10 +73,12 @@ pub record Ignored (r : Receiver) (c : ReceiverCall) : Type 0 where
   pub receiver : LeftAlone r (c .returned .receiver)
   pub memory : LeftAlone (c .lent) (c .left)
 
--- Any other call gives the numbers of bytes and frames of the frames that became certain with its symbol.
+-- Any other call gives the numbers of bytes and frames of the frames that became certain with its symbol; they stand end to end at the front
+-- of the memory lent, which is as it was beyond them.
 pub record Counted (line : List Symbol) (c : ReceiverCall) : Type 1 where
   pub new : Exactly (Newly line (c .symbol))
   pub answer : c .returned .answer ≡ Delivered (length (joined (new .frames))) (length (new .frames))
+  pub memory : c .left ≡ over (joined (new .frames)) (c .lent)
 
 -- What holds of a call, by the line heard before it and the receiver given to it.
 pub record CallIsRight (line : List Symbol) (r : Receiver) (c : ReceiverCall) : Type 1 where
@@ -89,14 +88,18 @@ pub record CallIsRight (line : List Symbol) (r : Receiver) (c : ReceiverCall) : 
 
 -- What holds of a list of calls from a fresh receiver.
 pub record ReceivesTheLine (calls : List ReceiverCall) : Type 1 where
+  -- exactly one choice of taken frames keeps document 01's rule in the line heard
+  pub one : OneChoice (heard calls)
   -- each call of the list
   pub each : (earlier : List ReceiverCall) (c : ReceiverCall) (later : List ReceiverCall) → calls ≡ earlier ++ (c ∷ later) →
       CallIsRight (heard earlier) (receiverAfter fresh earlier) c
   -- the frames certain after the line heard, and that all that was handed on, joined, is their bytes joined
   pub certain : Exactly (Certain (heard calls))
   pub delivered : deliveredBytes calls ≡ joined (certain .frames)
-  -- at most 211 bytes are kept
-  pub kept : receiverAfter fresh calls .count ≤ 211
+  -- what is kept are the bytes of the line heard from the first place on that may still become a frame and that no taken frame covers, at
+  -- most 211
+  pub kept : RestOf (heard calls) (keptBytes (receiverAfter fresh calls))
+  pub most : receiverAfter fresh calls .count ≤ 211
 
 -- What a call answers, by the line that the receiver given to it has heard.
 abbrev AnswersOf : List Symbol → Receiver → ReceiverCall → Type 0
@@ -114,7 +117,7 @@ call-right {line} {c = c} (delivers l a e m) =
     record {
       refused = (λ w. absurd (rw a at w), λ h. absurd (omega arith));
       short = λ h. absurd (omega arith);
-      enough = λ h. record { new = new; answer = a };
+      enough = λ h. record { new = new; answer = a; memory = m };
     }
   where
     new : Exactly (Newly line (c .symbol))
@@ -129,7 +132,8 @@ call-right {line} {c = c} (delivers l a e m) =
 call-after : {line : List Symbol} {r : Receiver} {c : ReceiverCall} → HasReceived line r → AnswersOf line r c →
     After line (receivedBy (c .returned .answer) (c .symbol)) (deliveredBy (c .returned .answer) (c .left)) (c .returned .receiver)
 call-after h (ignores l a e m) = rw (a, e) (after-none h)
-call-after h (delivers l a e m) = rw (a, m) (after-one e)
+call-after {line} {c = c} h (delivers l a e m) =
+    rw (a, m, take-append-seam (joined (newFrames line (c .symbol))) _) (after-one e)
 
 calls-after : {line : List Symbol} {r : Receiver} (calls : List ReceiverCall) → HasReceived line r → Calls r calls →
     After line (heard calls) (deliveredBytes calls) (receiverAfter r calls)
@@ -150,15 +154,12 @@ unfolding scan joined
 demand-3 calls h =
     let after : After [] (heard calls) (deliveredBytes calls) (receiverAfter fresh calls) = calls-after calls fresh-received h in
     record {
+      one = one-choice (heard calls);
       each = λ earlier c later e.
           let s = calls-split fresh earlier (c ∷ later) (subst (Calls fresh) e h) in
           call-right (answers (calls-after earlier fresh-received (s .0) .heard) (s .1 .0));
-      certain =
-          record {
-            frames = scan 0 0 (heard calls) .frames;
-            rising = scan-rising 0 0 (heard calls);
-            exact = λ place frame. (found-certain (heard calls) place frame, certain-found (heard calls) place frame);
-          };
+      certain = certain-frames (heard calls);
       delivered = sym (after .frames);
-      kept = received-most (after .heard);
+      kept = rw (after .heard .bytes) (scan-rest (heard calls));
+      most = received-most (after .heard);
     }

@@ -5,3 +5,4 @@ pub mod BlockLaws
 pub mod Skip
 pub mod SkipLaws
 pub mod RestLaws
+pub mod BlockDue

@@ -1,10 +1,10 @@
 -- Laws of what symbols begin with: their bytes up to the first silence, and what these come to where one follows.
-use Prim.Native.Nat.{ℕ, _≤_}
+use Prim.Native.Nat.{ℕ, zero, suc, _≤_}
 use native.Mathlib.Omega.{arith}
-use mathlib.Core.Path.{_≡_, refl, ap}
+use mathlib.Core.Path.{_≡_, refl, sym, ap, _∙_}
 use mathlib.Core.Bool.{Bool, true, false}
 use mathlib.Core.List.{List, [], _∷_, map}
-use lib.ListN.{length}
+use lib.ListN.{length, drop}
 use Rattle.frame.specs.Recognition.{recognised}
 use Rattle.frame.specs.declared.Recognised.{Recognised}
 use Rattle.frame.specs.declared.Recognised.the-variants.{Whole, Open, Neither}
@@ -24,6 +24,18 @@ unfolding broken bytesBefore
 unbroken [] e = refl
 unbroken (byte b ∷ x) e = ap (λ (l : List Symbol). byte b ∷ l) (unbroken x e)
 unbroken (silence ∷ x) e = cc
+
+-- Bytes as symbols, from a place on, are the bytes from that place on.
+pub bytes-from : (n : ℕ) (l : List ℕ) → bytesBefore (drop n (map byte l)) ≡ drop n l
+unfolding bytesBefore
+bytes-from zero [] = refl
+bytes-from zero (b ∷ l) = ap (λ (k : List ℕ). b ∷ k) (bytes-from zero l)
+bytes-from (suc n) [] = refl
+bytes-from (suc n) (b ∷ l) = bytes-from n l
+
+-- Symbols are those of one list of bytes only.
+pub same-bytes : (a b : List ℕ) → map byte a ≡ map byte b → a ≡ b
+same-bytes a b e = sym (bytes-from 0 a) ∙ ap bytesBefore e ∙ bytes-from 0 b
 
 -- What is a whole frame once it is known whether a silence follows was recognised as one.
 pub before-silence-whole : (b : Bool) (r : Recognised) (n : ℕ) → beforeSilence b r ≡ Whole n → r ≡ Whole n

@@ -1,18 +1,20 @@
--- A line that has ended: a silence behind it changes nothing of what is taken in it, and the scan with that silence finds exactly what is
--- taken.
+-- A line that has ended: a silence behind it changes nothing of what is taken in it, the scan with that silence finds exactly what is
+-- taken, and so that is what is certain then.
 use Prim.Native.Nat.{ℕ, _+_, _≤_}
 use native.Mathlib.Omega.{arith}
 use mathlib.Core.Path.{_≡_, sym, _∙_, ap}
-use mathlib.Core.Logic.{_↔_, _⊎_, inl, inr}
+use mathlib.Core.Logic.{_↔_, Iff·trans, _⊎_, inl, inr}
 use mathlib.Core.List.{List, [], _∷_, _++_, map, append-nil, List·Memᴰ}
 use lib.ListN.{length, take, drop, length-append, length-drop, length-map}
-use lib.Seq.{take-all, take-append-le, drop-append-le}
+use lib.Seq.{take-append-le, drop-append-le}
 use Rattle.frame.specs.RecognitionLaws.{frame-least}
-use Rattle.line_terms.specs.Line.{Symbol, byte, silence, Stands, Choice, Keeps}
-use Rattle.line_terms.specs.Places.{Found}
+use Rattle.line_terms.specs.Line.{Symbol, byte, silence, Stands, Choice, Keeps, Taken, Certain}
+use Rattle.line_terms.specs.Places.{Found, Exactly}
 use Rattle.line_terms.specs.Scan.{scan}
-use Rattle.line_terms.specs.TakenLaws.{Read}
-use Rattle.line_terms.specs.ScanCertain.{scan-reads, stands-within}
+use Rattle.line_terms.specs.OneChoice.{OneChoice, one-choice}
+use Rattle.line_terms.specs.ScanLaws.{scan-rising}
+use Rattle.line_terms.specs.TakenLaws.{Read, bytes-all}
+use Rattle.line_terms.specs.ScanCertain.{scan-reads, stands-within, found-certain, certain-found, certain-frames}
 
 -- The line with a silence behind it.
 abbrev closed : List Symbol → List Symbol
@@ -28,8 +30,7 @@ front-within (s ∷ x) (b ∷ bs) e = omega (arith, front-within x bs (cc))
 not-bytes : (x : List Symbol) (b : List ℕ) → closed x ≡ map byte b → ⊥
 not-bytes x b e =
     let l : length x + 1 ≡ length b = rw (length-append, length-map) at (ap length e) in
-    let t : take (length b) (closed x) ≡ map byte b = rw e (take-all (length b) (map byte b) (rw length-map (omega arith))) in
-    omega (arith, front-within x b t)
+    omega (arith, front-within x b (bytes-all b e))
 
 -- A frame that stands in a closed line ends before its silence.
 closed-within : (x : List Symbol) (place : ℕ) (f : List ℕ) → Stands (closed x) place f → place + length f ≤ length x
@@ -79,3 +80,22 @@ taken-found x taken keeps place frame = (read .passed .found g, λ t. go t (read
         absurd
         (not-bytes (drop (read .stop) x) (scan 0 0 (closed x) .kept)
         (sym (drop-append-le (read .stop) x (silence ∷ []) h) ∙ rw append-nil at (read .there)))
+
+-- What is certain after a line with a silence behind it is what is taken in the line.
+pub ended-taken : (x : List Symbol) (place : ℕ) (frame : List ℕ) → Certain (x ++ (silence ∷ [])) place frame ↔ Taken x place frame
+ended-taken x place frame = (
+  λ c taken keeps. taken-found x taken keeps place frame .0 (certain-found (closed x) place frame c),
+  λ t. found-certain (closed x) place frame (taken-found x (one .taken) (one .keeps) place frame .1 (t (one .taken) (one .keeps))),
+)
+  where
+    one : OneChoice x
+    one = one-choice x
+
+-- So the frames that the scan with that silence finds are exactly those that are taken.
+abbrev pub taken-frames : (x : List Symbol) → Exactly (Taken x)
+taken-frames x =
+    record {
+      frames = scan 0 0 (x ++ (silence ∷ [])) .frames;
+      rising = scan-rising 0 0 (x ++ (silence ∷ []));
+      exact = λ place frame. Iff·trans (certain-frames (x ++ (silence ∷ [])) .exact place frame) (ended-taken x place frame);
+    }

@@ -1,15 +1,36 @@
 -- Laws of lists of frames with the places where they stand.
 use Prim.Native.Nat.{ℕ, _<_}
 use native.Mathlib.Omega.{arith}
-use mathlib.Core.Path.{_≡_, refl, sym, ap}
-use mathlib.Core.List.{List, [], _∷_, _++_, append-assoc, List·Memᴰ, List·Memᴰ·head, List·Memᴰ·tail, List·Memᴰ·not-nil, Memᴰ·append-right}
-use Rattle.line_terms.specs.Places.{Found, AllAbove, Rising, joined}
+use mathlib.Core.Path.{_≡_, refl, sym, ap, _∙_}
+use mathlib.Core.List.{List, [], _∷_, _++_, append-assoc, map-append, flatten, List·Memᴰ, List·Memᴰ·head, List·Memᴰ·tail, List·Memᴰ·not-nil, Memᴰ·append-right}
+use lib.ListN.{length, length-map}
+use Rattle.line_terms.specs.Places.{Found, AllAbove, Rising, joined, framesOf}
 
 -- The bytes of frames joined are their bytes joined.
 pub joined-append : (a b : List Found) → joined (a ++ b) ≡ joined a ++ joined b
 unfolding joined
 joined-append [] b = refl
 joined-append (f ∷ a) b = rw (joined-append a b, append-assoc)
+
+-- Frames joined, and counted, without their places.
+pub joined-frames : (fs : List Found) → joined fs ≡ flatten (framesOf fs)
+unfolding joined framesOf flatten
+joined-frames [] = refl
+joined-frames (f ∷ fs) = ap (λ (l : List ℕ). f .frame ++ l) (joined-frames fs)
+
+pub count-frames : (fs : List Found) → length fs ≡ length (framesOf fs)
+unfolding framesOf
+count-frames fs = sym (length-map fs (λ (f : Found). f .frame))
+
+pub joined-same : (a b : List Found) → framesOf a ≡ framesOf b → joined a ≡ joined b
+joined-same a b e = joined-frames a ∙ ap flatten e ∙ sym (joined-frames b)
+
+pub count-same : (a b : List Found) → framesOf a ≡ framesOf b → length a ≡ length b
+count-same a b e = count-frames a ∙ ap length e ∙ sym (count-frames b)
+
+pub frames-append : (a b : List Found) → framesOf (a ++ b) ≡ framesOf a ++ framesOf b
+unfolding framesOf
+frames-append a b = map-append (λ (f : Found). f .frame) a b
 
 -- A frame of a list stands above what all its places are above, and of rising frames none stands twice.
 above-member : {p : ℕ} {f : Found} {l : List Found} → List·Memᴰ f l → AllAbove p l → p < f .place

@@ -8,9 +8,10 @@ use lib.ListN.{length, take, length-append, length-take, length-drop, length-map
 use Rattle.frame.specs.Frame.{Frame}
 use Rattle.laws.specs.Memory.{Bytes}
 use Rattle.line_terms.specs.Line.{Symbol, byte, AllBytes, Stands, Choice, Keeps, Certain}
-use Rattle.line_terms.specs.Places.{Found}
+use Rattle.line_terms.specs.Places.{Found, Exactly}
 use Rattle.line_terms.specs.Scan.{LineReading, bytesBefore, scan}
 use Rattle.line_terms.specs.OneChoice.{OneChoice, one-choice}
+use Rattle.line_terms.specs.ScanLaws.{scan-rising}
 use Rattle.frame.specs.RecognitionLaws.{Completion, open-completes, frame-least}
 use Rattle.line_terms.specs.TakenLaws.{Takes, Read, reads, begins-frame, begins-whole, whole-passed}
 
@@ -90,3 +91,12 @@ certain-found x place frame h = go (read more .passed .rest g (certain more byte
     go : List·Memᴰ g (scan 0 0 x .frames) ⊎ (read more .stop ≤ place) → List·Memᴰ g (scan 0 0 x .frames)
     go (inl m) = m
     go (inr l) = absurd (omega (arith, within, past l))
+
+-- So the frames that it finds are exactly those that are certain.
+abbrev pub certain-frames : (x : List Symbol) → Exactly (Certain x)
+certain-frames x =
+    record {
+      frames = scan 0 0 x .frames;
+      rising = scan-rising 0 0 x;
+      exact = λ place frame. (found-certain x place frame, certain-found x place frame);
+    }

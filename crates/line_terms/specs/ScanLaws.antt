@@ -12,7 +12,8 @@ use Rattle.frame.specs.RecognitionLaws.{whole-within, whole-stays, neither-stay
 use Rattle.frame.specs.declared.Recognised.{Recognised}
 use Rattle.frame.specs.declared.Recognised.the-variants.{Whole, Open, Neither}
 use Rattle.line_terms.specs.Line.{Symbol, byte, silence}
-use Rattle.line_terms.specs.Places.{Found, AllAbove, Rising, joined}
+use Rattle.line_terms.specs.Places.{Found, AllAbove, Rising, joined, framesOf}
+use Rattle.line_terms.specs.PlaceLaws.{joined-same, count-same}
 use Rattle.line_terms.specs.BeginsLaws.{before-silence-whole, begins-open, unbroken, bytes-length}
 use Rattle.line_terms.specs.Scan.{LineReading, bytesBefore, broken, beforeSilence, begins, before, readingBy, scan}
 
@@ -74,13 +75,12 @@ scan-kept-open place k x = scans-open (scans place k x)
 
 -- Readings that differ in no more than the places.
 record Alike (r r′ : LineReading) : Type 0 where
-  bytes : joined (r .frames) ≡ joined (r′ .frames)
-  count : length (r .frames) ≡ length (r′ .frames)
+  frames : framesOf (r .frames) ≡ framesOf (r′ .frames)
   kept : r .kept ≡ r′ .kept
 
 alike : (p q k : ℕ) (x : List Symbol) → Alike (scan p k x) (scan q k x)
-unfolding scan readingBy before joined
-alike p q k [] = record { bytes = refl; count = refl; kept = refl }
+unfolding scan readingBy before framesOf
+alike p q k [] = record { frames = refl; kept = refl }
 alike p q (suc k) (s ∷ x) = alike (suc p) (suc q) k x
 alike p q zero (s ∷ x) = go (begins (s ∷ x)) (λ k. alike (suc p) (suc q) k x)
   where
@@ -88,17 +88,20 @@ alike p q zero (s ∷ x) = go (begins (s ∷ x)) (λ k. alike (suc p) (suc q) k 
         Alike (readingBy r p (bytesBefore (s ∷ x)) (λ k. scan (suc p) k x)) (readingBy r q (bytesBefore (s ∷ x)) (λ k. scan (suc q) k x))
     go (Whole n) h =
         let a : Alike (scan (suc p) (n - 1) x) (scan (suc q) (n - 1) x) = h (n - 1) in
-        record { bytes = ap (λ (l : List ℕ). take n (bytesBefore (s ∷ x)) ++ l) (a .bytes); count = ap suc (a .count); kept = a .kept }
-    go Open h = record { bytes = refl; count = refl; kept = refl }
+        record { frames = ap (λ (l : List (List ℕ)). take n (bytesBefore (s ∷ x)) ∷ l) (a .frames); kept = a .kept }
+    go Open h = record { frames = refl; kept = refl }
     go Neither h = h 0
 
 -- The place only numbers the frames.
 module _ (p q : ℕ) (x : List Symbol) where
+  pub place-frames : framesOf (scan p 0 x .frames) ≡ framesOf (scan q 0 x .frames)
+  place-frames = alike p q 0 x .frames
+
   pub place-joined : joined (scan p 0 x .frames) ≡ joined (scan q 0 x .frames)
-  place-joined = alike p q 0 x .bytes
+  place-joined = joined-same (scan p 0 x .frames) (scan q 0 x .frames) place-frames
 
   pub place-count : length (scan p 0 x .frames) ≡ length (scan q 0 x .frames)
-  place-count = alike p q 0 x .count
+  place-count = count-same (scan p 0 x .frames) (scan q 0 x .frames) place-frames
 
   pub place-kept : scan p 0 x .kept ≡ scan q 0 x .kept
   place-kept = alike p q 0 x .kept

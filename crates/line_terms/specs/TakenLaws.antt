@@ -6,16 +6,17 @@ use native.Mathlib.Numerals.{add-one}
 use mathlib.Core.Path.{_≡_, refl, sym, _∙_, ap, ap₂, subst}
 use mathlib.Core.Logic.{_⊎_, inl, inr, ⊎-elim, ⊎-map}
 use mathlib.Core.Bool.{false}
-use mathlib.Core.List.{List, [], _∷_, _++_, map, append-nil, List·Memᴰ, List·Memᴰ·head, List·Memᴰ·not-nil, List·Memᴰ·eq-of-singleton, List·Memᴰ·append-cases, Memᴰ·append-left, Memᴰ·append-right}
-use lib.ListN.{length, take, drop}
-use lib.Seq.{length-take-le, take-append-seam, drop-drop}
+use mathlib.Core.List.{List, [], _∷_, _++_, map, append-nil, append-assoc, map-append, List·Memᴰ, List·Memᴰ·head, List·Memᴰ·not-nil, List·Memᴰ·eq-of-singleton, List·Memᴰ·append-cases, Memᴰ·append-left, Memᴰ·append-right}
+use lib.ListN.{length, take, drop, length-map}
+use lib.Seq.{length-take-le, take-all, take-append-seam, drop-drop}
 use Rattle.frame.specs.Frame.{Frame}
 use Rattle.frame.specs.Recognition.{recognised}
 use Rattle.frame.specs.declared.Recognised.{Recognised}
 use Rattle.frame.specs.declared.Recognised.the-variants.{Whole, Open, Neither}
 use Rattle.line_terms.specs.Line.{Symbol, byte, silence, Stands, Choice, Covered, Keeps}
+use Rattle.line_terms.specs.Rest.{MayBecome, Uncovered}
 use Rattle.line_terms.specs.Places.{Found}
-use Rattle.line_terms.specs.BeginsLaws.{before-silence-whole, begins-open, unbroken, bytes-length}
+use Rattle.line_terms.specs.BeginsLaws.{bytes-from, before-silence-whole, begins-open, unbroken, bytes-length}
 use Rattle.line_terms.specs.Scan.{LineReading, bytesBefore, broken, beforeSilence, begins, before, readingBy, scan}
 use Rattle.frame.specs.RecognitionLaws.{frame-least, frame-whole, whole-within, whole-frame, completes-open, empty-open}
 
@@ -38,6 +39,12 @@ front (byte a ∷ x) more (b ∷ f) e = go (front x more f (cc))
     go : Front x f → Front (byte a ∷ x) (b ∷ f)
     go (within rest p) = within rest (cc)
     go (beyond rest some whole p) = beyond rest some whole (cc)
+
+-- Symbols that are bytes have all of them in front.
+pub bytes-all : {x : List Symbol} (f : List ℕ) → x ≡ map byte f → take (length f) x ≡ map byte f
+bytes-all f e =
+    let long : length (map byte f) ≡ length f = length-map f byte in
+    rw e (take-all (length f) (map byte f) (omega arith))
 
 -- Symbols begin with that frame, or may still become a frame.
 data Begins (x : List Symbol) (f : List ℕ) : Type 0 where
@@ -97,11 +104,7 @@ begins-whole x n e =
 -- A frame, as symbols, begins with itself.
 pub begins-frame : (f : List ℕ) → Frame f → begins (map byte f) ≡ Whole (length f)
 unfolding begins beforeSilence bytesBefore
-begins-frame f w = rw (bytes-of f, rw append-nil at (frame-whole f [] w))
-  where
-    bytes-of : (b : List ℕ) → bytesBefore (map byte b) ≡ b
-    bytes-of [] = refl
-    bytes-of (a ∷ b) = ap (λ (l : List ℕ). a ∷ l) (bytes-of b)
+begins-frame f w = rw (bytes-from 0 f, rw append-nil at (frame-whole f [] w))
 
 -- What stands after the symbol at a place.
 drop-next : (line : List Symbol) (place : ℕ) {s : Symbol} {x : List Symbol} → drop place line ≡ s ∷ x → drop (suc place) line ≡ x
@@ -112,39 +115,43 @@ abbrev pub Takes : Choice → Found → Type 0
 Takes taken g = taken (g .place) (g .frame)
 
 -- The frame ends before the place, or begins there or later.
-abbrev Beside : ℕ → Found → Type 0
+abbrev pub Beside : ℕ → Found → Type 0
 Beside place g = (g .place + length (g .frame) ≤ place) ⊎ (place ≤ g .place)
 
 -- No taken frame lies across the place.
 abbrev pub Free : Choice → ℕ → Type 0
 Free taken place = (g : Found) → Takes taken g → Beside place g
 
--- The frames listed are taken, whatever else is taken from one place on begins at another or later, and none lies across that.
-pub record Passed (taken : Choice) (from to : ℕ) (fs : List Found) : Type 0 where
+-- The frames listed are taken, whatever else is taken from one place on begins at another or later, and none lies across that; no place
+-- between them that may still become a frame is left uncovered.
+pub record Passed (line : List Symbol) (taken : Choice) (from to : ℕ) (fs : List Found) : Type 0 where
   pub found : (g : Found) → List·Memᴰ g fs → Takes taken g
   pub rest : (g : Found) → Takes taken g → from ≤ g .place → List·Memᴰ g fs ⊎ (to ≤ g .place)
   pub free : Free taken to
+  pub given-up : (place : ℕ) → from ≤ place → place < to → MayBecome line place → Uncovered taken place → ⊥
 
 -- A reading from a place on: where it stops, and that the bytes kept stand there, before what follows, and may still become a frame.
 pub record Read (line more : List Symbol) (taken : Choice) (from : ℕ) (r : LineReading) : Type 0 where
   pub stop : ℕ
-  pub passed : Passed taken from stop (r .frames)
+  pub passed : Passed line taken from stop (r .frames)
   pub begun : recognised (r .kept) ≡ Open
   pub there : drop stop line ≡ map byte (r .kept) ++ more
 
 module _ (line more : List Symbol) (taken : Choice) where
   -- Places passed one part after another.
   passed-then : {from mid to : ℕ} {fs gs : List Found} →
-      Passed taken from mid fs → Passed taken mid to gs → Passed taken from to (fs ++ gs)
-  passed-then {fs = fs} {gs = gs} a b =
+      Passed line taken from mid fs → Passed line taken mid to gs → Passed line taken from to (fs ++ gs)
+  passed-then {mid = mid} {fs = fs} {gs = gs} a b =
       record {
         found = λ g m. ⊎-elim (a .found g) (b .found g) (List·Memᴰ·append-cases fs m);
         rest = λ g t h. ⊎-elim (λ m. inl (Memᴰ·append-left gs m)) (λ l. ⊎-map (Memᴰ·append-right fs) (λ q. q) (b .rest g t l)) (a .rest g t h);
         free = b .free;
+        given-up = λ place h l m u.
+            elim (decLt place mid) [ yes c ↦ a .given-up place h c m u | no c ↦ b .given-up place (omega arith) l m u ];
       }
 
   -- A reading that goes on where places are passed.
-  read-then : {from mid : ℕ} {fs : List Found} {r : LineReading} → Passed taken from mid fs → Read line more taken mid r →
+  read-then : {from mid : ℕ} {fs : List Found} {r : LineReading} → Passed line taken from mid fs → Read line more taken mid r →
       Read line more taken from (record { frames = fs ++ r .frames; kept = r .kept })
   read-then p a = record { stop = a .stop; passed = passed-then p (a .passed); begun = a .begun; there = a .there }
 
@@ -154,7 +161,13 @@ module _ (line more : List Symbol) (taken : Choice) where
   read-end from kept free begun there =
       record {
         stop = from;
-        passed = record { found = λ g m. absurd (List·Memᴰ·not-nil m); rest = λ g t h. inr h; free = free };
+        passed =
+            record {
+              found = λ g m. absurd (List·Memᴰ·not-nil m);
+              rest = λ g t h. inr h;
+              free = free;
+              given-up = λ place h l m u. omega arith;
+            };
         begun = begun;
         there = there;
       }
@@ -162,9 +175,10 @@ module _ (line more : List Symbol) (taken : Choice) where
   -- Places are passed if what is listed is taken and ends in time, and whatever else is taken from there on comes after.
   passed-by : (from to : ℕ) (fs : List Found) → from ≤ to → Free taken from →
       ((g : Found) → List·Memᴰ g fs → Takes taken g × (g .place + length (g .frame) ≤ to)) →
-      ((g : Found) → Takes taken g → from ≤ g .place → List·Memᴰ g fs ⊎ (to ≤ g .place)) → Passed taken from to fs
-  passed-by from to fs up free found rest =
-      record { found = λ g m. found g m .0; rest = rest; free = λ g t. after g t (free g t) }
+      ((g : Found) → Takes taken g → from ≤ g .place → List·Memᴰ g fs ⊎ (to ≤ g .place)) →
+      ((place : ℕ) → from ≤ place → place < to → MayBecome line place → Uncovered taken place → ⊥) → Passed line taken from to fs
+  passed-by from to fs up free found rest given-up =
+      record { found = λ g m. found g m .0; rest = rest; free = λ g t. after g t (free g t); given-up = given-up }
     where
       after : (g : Found) → Takes taken g → Beside from g → Beside to g
       after g t (inl h) = inl (omega arith)
@@ -189,11 +203,20 @@ module _ (line more : List Symbol) (taken : Choice) where
               let s : Stands line place (g .frame) = subst (λ (p : ℕ). Stands line p (g .frame)) e (keeps (g .place) (g .frame) .0 t .0) in
               (e, frame-begins x more (g .frame) (s .whole) (rw there at (s .there)))
 
+      -- Where the place may still become a frame, so the symbols there begin.
+      may-begin : (m : MayBecome line place) → Begins x (m .begun ++ m .completes .more)
+      may-begin m =
+          let y : List Symbol = map byte (m .completes .more) in
+          let bytes : x ++ (more ++ y) ≡ map byte (m .begun ++ m .completes .more) =
+          sym (append-assoc x more y) ∙ ap (λ (l : List Symbol). l ++ y) (sym there ∙ m .there) ∙ sym (map-append byte (m .begun) (m .completes .more)) in
+          frame-begins x (more ++ y) (m .begun ++ m .completes .more) (m .completes .whole) (bytes-all (m .begun ++ m .completes .more) bytes)
+
       -- Where no frame can stand any more, nothing is taken.
-      neither-passed : begins x ≡ Neither → Passed taken place (suc place) []
+      neither-passed : begins x ≡ Neither → Passed line taken place (suc place) []
       neither-passed e =
           passed-by place (suc place) [] (omega arith) free (λ g m. absurd (List·Memᴰ·not-nil m))
           (λ g t h. ⊎-map (λ b. absurd (never (b .1))) (λ l. l) (taken-from g t h))
+          (λ p h l m u. let s : p ≡ place = omega arith in never (may-begin (rw s at m)))
         where
           never : {f : List ℕ} → Begins x f → ⊥
           never (whole w _) = let z : _≡_ {A = ℕ} 0 1 = cc in omega arith
@@ -201,10 +224,11 @@ module _ (line more : List Symbol) (taken : Choice) where
 
       -- Where a whole frame stands, it is taken, and nothing else before its end.
       pub whole-passed : (n : ℕ) → begins x ≡ Whole n →
-          Passed taken place (place + n) (record { place = place; frame = take n (bytesBefore x) } ∷ [])
+          Passed line taken place (place + n) (record { place = place; frame = take n (bytesBefore x) } ∷ [])
       whole-passed n e =
           passed-by place (place + n) (first ∷ []) (omega arith) free found
           (λ g t h. ⊎-elim (λ b. inl (List·Memᴰ·head (same g (b .0) (b .1)))) (λ l. inr (after g t l)) (taken-from g t h))
+          (λ p h l m u. omega (arith, u place (first .frame) chosen h, head .long))
         where
           first : Found
           first = record { place = place; frame = take n (bytesBefore x) }

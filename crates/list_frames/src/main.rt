@@ -1,112 +1,124 @@
 // The listing program of document 01: it reads raw bytes on standard input, takes the end as a silence, and writes a line
-// for each frame on standard output. Input is read and text is written in blocks.
+// for each frame on standard output. With file names as arguments it lists each file so, one after the other.
+mod input;
+
 ghost use Prim.Native.Nat.{_≤_, _<_};
 ghost use mathlib.Core.Path.{_≡_};
 ghost use lib.ListN.{length};
 ghost use Rattle.line_verdict.specs.Verdict.{mostKept};
-use libc::STDERR_FILENO;
+use input::Next;
 use libc::STDIN_FILENO;
 use libc::STDOUT_FILENO;
-use listing::block::BlockListed;
 
-// What a block of input leaves.
-struct Progress {
-    // How many bytes of its unfinished rest stand at the front of the block's buffer.
-    kept: usize,
-    // Whether the program goes on: its input has not ended, and every line so far is written.
-    on: bool,
+// The length of what a message begins with, `list_frames: `, and of the buffer for it and a file's name behind it.
+const BEGINNING: usize = 13;
+
+const NAME: usize = BEGINNING + 4096;
+
+// Whether an argument is `--help`.
+fn is_help(i: usize) -> bool {
+    let mut word = [0u8; 6];
+    let n = os::arg(i, &mut word);
+    check::same(&word[..n], b"--help")
 }
 
-// Says that standard input cannot be read.
-fn say_unread() {
-    io::write_all(
-        STDERR_FILENO,
-        b"list_frames: standard input cannot be read\n",
-    );
-}
-
-// Says that the lines cannot be written.
-fn say_unwritten() {
-    io::write_all(
-        STDERR_FILENO,
-        b"list_frames: the lines cannot be written to standard output\n",
-    );
-}
-
-// The end of the program, whatever is left.
-fn stopped() -> Progress
-    ensures { λ r. ⌜ r .kept ≡ 0 ⌝ }
-{
-    Progress { kept: 0, on: false }
-}
-
-// Lists the first `n` bytes of the block's buffer, writes their lines, and moves their unfinished rest to the front.
-fn list_bytes(
-    block: &mut [u8],
-    n: usize,
-    ended: bool,
-    frames: &mut [u8],
-    text: &mut [u8],
-) -> Progress
-    requires { ⌜ n ≤ length (now block) ⌝ }
-    ensures { λ r. ⌜ r .kept ≤ mostKept ⌝ }
-{
-    let listed = listing::block::list_block(&block[..n], ended, frames, text);
-    let BlockListed::Listed { text: used, rest } = listed else {
-        say_unwritten();
-        return stopped();
-    };
-    if !io::write_all(STDOUT_FILENO, &text[..used]) {
-        say_unwritten();
-        return stopped();
-    }
-    let kept = recording::rest::keep_rest(block, rest, n);
-    Progress { kept, on: true }
-}
-
-// Reads behind the rest of the block before, where there is always room, and lists; the end of the input is a silence. A read
-// that a signal interrupts is tried again.
-fn turn(kept: usize, block: &mut [u8], frames: &mut [u8], text: &mut [u8]) -> Progress
-    requires { ⌜ (kept ≤ mostKept) × (mostKept < length (now block)) ⌝ }
-    ensures { λ r. ⌜ r .kept ≤ mostKept ⌝ }
-{
-    let got = libc::read(STDIN_FILENO, &mut block[kept..]);
-    if got == 0 {
-        list_bytes(block, kept, true, frames, text);
-        return stopped();
-    }
-    if got < 0 {
-        if os::errno() != libc::EINTR {
-            say_unread();
-            return stopped();
+// Whether one of the arguments is `--help`.
+fn asks_for_help(count: usize) -> bool {
+    let mut i = 1;
+    while i < count {
+        if is_help(i) {
+            return true;
         }
-        return Progress { kept, on: true };
+        i += 1;
     }
-    let n = io::count(got, &block[kept..]);
-    list_bytes(block, kept + n, false, frames, text)
+    false
 }
 
-// Lists the frames of the whole input. A proved loop has to end, and nothing says that the input does: so the loop counts
-// its turns down, from a number that no run uses up.
-fn list_input(block: &mut [u8], frames: &mut [u8], text: &mut [u8])
-    requires { ⌜ mostKept < length (now block) ⌝ }
+// Lists an input, whose name stands behind the beginning of a message, and says whether the program goes on: an input that
+// cannot be read is named, and lines that cannot be written end the program.
+fn list_input(fd: i32, name: &[u8], buffer: &mut [u8], frames: &mut [u8], text: &mut [u8]) -> bool
+    requires { ⌜ mostKept < length (now buffer) ⌝ }
 {
-    let mut kept = 0;
-    let mut turns = u64::MAX;
-    while 0 < turns {
-        let progress = turn(kept, block, frames, text);
-        if !progress.on {
+    let end = input::list_all(fd, buffer, frames, text);
+    match end {
+        Next::More => true,
+        Next::Ended => true,
+        Next::Unread => {
+            os::fail(name);
+            true
+        }
+        Next::Unwritten => {
+            os::fail(b"list_frames: standard output");
+            false
+        }
+    }
+}
+
+// Puts the beginning of a message and an argument behind it at the front of the buffer, and returns where they end. Of an
+// argument that is too long for a file's name as much as there is room for.
+fn put_name(i: usize, name: &mut [u8]) -> usize
+    requires { ⌜ length (now name) ≡ 4109 ⌝ }
+    ensures { λ r. ⌜ (13 ≤ r) × (r ≤ 4109) ⌝ }
+{
+    bytes::copy(b"list_frames: ", name);
+    let n = os::arg(i, &mut name[BEGINNING..]);
+    if os::errno() == libc::ENAMETOOLONG {
+        return NAME;
+    }
+    BEGINNING + n
+}
+
+// Lists the file that an argument names, and says whether the program goes on. One that cannot be opened is named.
+fn list_file(i: usize, buffer: &mut [u8], frames: &mut [u8], text: &mut [u8]) -> bool
+    requires { ⌜ mostKept < length (now buffer) ⌝ }
+{
+    let mut name = [0u8; NAME];
+    let end = put_name(i, &mut name);
+    let fd = os::open_read(&name[BEGINNING..end]);
+    if fd < 0 {
+        os::fail(&name[..end]);
+        return true;
+    }
+    let on = list_input(fd, &name[..end], buffer, frames, text);
+    libc::close(fd);
+    on
+}
+
+// Lists the files that the arguments name, one after the other.
+fn list_files(count: usize, buffer: &mut [u8], frames: &mut [u8], text: &mut [u8])
+    requires { ⌜ mostKept < length (now buffer) ⌝ }
+{
+    let mut i = 1;
+    while i < count {
+        if !list_file(i, buffer, frames, text) {
             return;
         }
-        kept = progress.kept;
-        turns -= 1;
+        i += 1;
     }
 }
 
 // Lists with 64 KiB of input at a time; the text of its frames is at most twice as long.
 fn main() {
-    let mut block = io::large_buffer();
+    let count = os::arg_count();
+    if asks_for_help(count) {
+        io::write_all(
+            STDOUT_FILENO,
+            b"usage: list_frames [FILE ...]   lists the frames of each file, or of standard input where none is named\n",
+        );
+        return;
+    }
+    let mut buffer = io::large_buffer();
     let mut frames = io::large_buffer();
     let mut text = [0u8; 131072];
-    list_input(&mut block, &mut frames, &mut text);
+    if count < 2 {
+        list_input(
+            STDIN_FILENO,
+            b"list_frames: standard input",
+            &mut buffer,
+            &mut frames,
+            &mut text,
+        );
+        return;
+    }
+    list_files(count, &mut buffer, &mut frames, &mut text);
 }

@@ -4,6 +4,6 @@ pub mod DigitLaws
 pub mod TextLaws
 pub mod Lines
 pub mod LinesLaws
-pub mod Block
-pub mod BlockLaws
+pub mod Step
+pub mod StepLaws
 pub mod ListedBlocks

@@ -1,164 +1,226 @@
--- A line listed in blocks, each begun with the rest of the one before: in all they write exactly the lines of the frames certain after the
--- whole line, in rising place and, where the line has ended with the last block, of the frames taken in it.
-use Prim.Native.Nat.{ℕ, _-_, _*_, _≤_}
+-- A line listed in blocks, cut anywhere: one theorem over every list of steps from an empty buffer. In all they write exactly the lines of the
+-- frames certain after the line that they brought, in rising place. A step that read nothing is at the end of the input, and the end is a
+-- silence.
+use Prim.Native.Nat.{ℕ, _+_, _≤_}
+use native.Mathlib.Omega.{arith}
+use native.Mathlib.Decide.{decLt}
 use mathlib.Core.Path.{_≡_, refl, ap, sym, _∙_}
-use mathlib.Core.Bool.{Bool, true, false, _||_}
-use mathlib.Core.List.{List, [], _∷_, _++_}
-use lib.ListN.{length, take, drop}
-use lib.Seq.{take-append-seam}
-use Rattle.laws.specs.Memory.{over}
-use Rattle.frame.specs.EndToEnd.{EndToEnd, cutFrom, cut}
-use Rattle.frame.specs.EndToEndLaws.{cut-append}
-use Rattle.line_terms.specs.FoundFrames.{AllFrames}
-use Rattle.line.specs.Demand3.{Exactly}
-use Rattle.line_block.specs.Block.{blockRead}
-use Rattle.line_block.specs.RestLaws.{rest-there}
-use Rattle.recording.specs.Certain.{Due, due-frames}
-use Rattle.recording.specs.Blocks as read
-use Rattle.recording.specs.Blocks.{Block, IsRead, AreRead, lineOf, hasEnded, deliveredBy, deliveredBytes, readingBehind, ReadsTheLine, block-rest, block-delivers, blocks-due}
+use mathlib.Core.Logic.{_↔_, inl, inr}
+use mathlib.Core.Bool.{false}
+use mathlib.Core.List.{List, [], _∷_, _++_, map}
+use lib.ListN.{length, take, drop, length-drop}
+use lib.Seq.{take-append-seam, length-take-le}
+use lib.Dec.{eqb}
+use borrow.Author.Tests.{ne-eqb}
+use Rattle.laws.specs.All.{AllOf}
+use Rattle.laws.specs.Memory.{over, LeftAlone}
+use Rattle.line_terms.specs.Line.{Symbol, byte, silence, Taken, Certain}
+use Rattle.line_terms.specs.Rest.{RestOf}
+use Rattle.line_terms.specs.RestLaws.{scan-rest}
+use Rattle.line_terms.specs.Places.{joined, framesOf, Exactly}
+use Rattle.line_terms.specs.Scan.{LineReading, scan}
+use Rattle.line_terms.specs.ScanCertain.{certain-frames}
+use Rattle.line_terms.specs.Closed.{taken-frames}
+use Rattle.line_terms.specs.Turns.{Brings, Turns, none, turn, turns-from-nothing}
+use Rattle.line_block.specs.Drain.{symbols}
+use Rattle.recording.specs.Step.{stepReading}
+use Rattle.recording.specs.Blocks.{newBytes, block-brings}
 use Rattle.listing.specs.Lines.{linesOf}
 use Rattle.listing.specs.LinesLaws.{lines-append}
-use Rattle.listing.specs.Block.{framesOf, BlockOutcome, blockOutcome, readingListed, blockListed}
-use Rattle.listing.specs.BlockLaws.{cut-joined, block-end-to-end, block-cut, reading-listed}
-use Rattle.listing.specs.declared.block.BlockListed.{BlockListed}
-use Rattle.listing.specs.declared.block.BlockListed.the-variants.{Refused, Listed}
+use Rattle.listing.specs.Step.{isEnd, listingOutcome, stepListed}
+use Rattle.listing.specs.StepLaws.{TooShort, Listing, declines, lists, listing-of}
+use Rattle.listing.specs.declared.step.StepListed.{StepListed}
+use Rattle.listing.specs.declared.step.StepListed.the-variants.{Refused, Listed}
 
--- A block of a line: the bytes that are new in it, whether the line has ended with them, both memories lent, the answer, and both memories
--- as they stood then.
-pub record ListedBlock : Type 0 where
-  pub new : List ℕ
-  pub ended : Bool
+-- A call of the step: how many bytes it was told are kept and how many are read behind them; the line's buffer and both memories lent, what it
+-- answered, and all three as they stood then.
+pub record ListCall : Type 0 where
+  pub kept : ℕ
+  pub read : ℕ
+  pub buffer : List ℕ
   pub lentFrames : List ℕ
   pub lentText : List ℕ
-  pub answer : BlockListed
+  pub answer : StepListed
+  pub leftBuffer : List ℕ
   pub leftFrames : List ℕ
   pub leftText : List ℕ
 
--- What an answer leaves for the next block: the bytes from the place on that it says.
-abbrev pub restBy : BlockListed → List ℕ → List ℕ
-restBy (Refused n) block = block
-restBy (Listed used rest) block = drop rest block
+-- What is kept after a call: as many bytes as it says, from the front of the buffer as it left it; what was kept before where it is refused.
+abbrev pub keptBy : StepListed → List ℕ → List ℕ → List ℕ
+keptBy (Refused n) front left = front
+keptBy (Listed text kept) front left = take kept left
+
+-- What is kept after a list of calls.
+abbrev pub keptAfter : List ℕ → List ListCall → List ℕ
+keptAfter front [] = front
+keptAfter front (c ∷ cs) = keptAfter (keptBy (c .answer) front (c .leftBuffer)) cs
+
+-- A call is told how many bytes are kept, its buffer begins with them, and it answers what its `ensures` says.
+pub record IsListStep (front : List ℕ) (c : ListCall) : Type 0 where
+  pub told : c .kept ≡ length front
+  pub begins : take (length front) (c .buffer) ≡ front
+  pub call : listingOutcome (c .answer) (c .leftBuffer) (c .leftFrames) (c .leftText) ≡
+      stepListed (c .kept) (c .read) (c .buffer) (c .lentFrames) (c .lentText)
+
+-- Calls one after the other, each with what the last one kept.
+abbrev pub ListSteps : List ℕ → List ListCall → Type 0
+ListSteps front [] = Unit
+ListSteps front (c ∷ cs) = IsListStep front c × ListSteps (keptBy (c .answer) front (c .leftBuffer)) cs
+
+-- What a read brings: its bytes; and where it brought none, the input has ended, and the end is a silence.
+abbrev pub brought : List ℕ → List Symbol
+brought [] = silence ∷ []
+brought (b ∷ bs) = map byte (b ∷ bs)
+
+-- What an answer adds to the line: what the call brought, and nothing where it is refused.
+abbrev pub heardBy : StepListed → List Symbol → List Symbol
+heardBy (Refused n) symbols = []
+heardBy (Listed text kept) symbols = symbols
+
+-- The line: what the calls not refused brought.
+abbrev pub heard : List ListCall → List Symbol
+heard [] = []
+heard (c ∷ cs) = heardBy (c .answer) (brought (newBytes (c .kept) (c .read) (c .buffer))) ++ heard cs
 
 -- What an answer lists: as many bytes as it says, from the front of the text memory; nothing if refused.
-abbrev pub textBy : BlockListed → List ℕ → List ℕ
+abbrev pub textBy : StepListed → List ℕ → List ℕ
 textBy (Refused n) left = []
-textBy (Listed used rest) left = take used left
-
--- What the `ensures` of `list_block` says of a block that begins with a rest, and that it was lent enough memory.
-pub record IsListed (rest : List ℕ) (b : ListedBlock) : Type 0 where
-  pub text : 2 * length (rest ++ b .new) ≤ length (b .lentText)
-  pub frames : length (rest ++ b .new) ≤ length (b .lentFrames)
-  pub call : blockOutcome (b .answer) (b .leftFrames) (b .leftText) ≡ blockListed (rest ++ b .new) (b .ended) (b .lentFrames) (b .lentText)
-
--- Blocks listed one after the other, each begun with the rest of the one before; the line ends with the last of them or not at all.
-abbrev pub AreListed : List ℕ → List ListedBlock → Type 0
-AreListed rest [] = Unit
-AreListed rest (b ∷ bs) = IsListed rest b × ((b .ended ≡ true → bs ≡ []) × AreListed (restBy (b .answer) (rest ++ b .new)) bs)
-
--- The whole line.
-abbrev pub listedLine : List ListedBlock → List ℕ
-listedLine [] = []
-listedLine (b ∷ bs) = b .new ++ listedLine bs
-
--- Whether it has ended.
-abbrev pub listedEnd : List ListedBlock → Bool
-listedEnd [] = false
-listedEnd (b ∷ bs) = b .ended || listedEnd bs
+textBy (Listed text kept) left = take text left
 
 -- The whole text.
-abbrev pub listedText : List ListedBlock → List ℕ
+abbrev pub listedText : List ListCall → List ℕ
 listedText [] = []
-listedText (b ∷ bs) = textBy (b .answer) (b .leftText) ++ listedText bs
+listedText (c ∷ cs) = textBy (c .answer) (c .leftText) ++ listedText cs
 
--- What holds of a line that is listed in blocks: the whole text is the lines of the frames due after the whole line.
-pub record ListsTheLine (blocks : List ListedBlock) : Type 1 where
-  pub found : Exactly (Due (listedLine blocks) (listedEnd blocks))
-  pub text : listedText blocks ≡ linesOf (framesOf (found .frames))
+-- The answer is a refusal.
+abbrev pub IsRefusal : StepListed → Type 0
+IsRefusal (Refused n) = Unit
+IsRefusal (Listed text kept) = ⊥
 
--- A listed block as a block that is read into the memory lent for the frames.
-abbrev reading : List ℕ → ListedBlock → Block
-reading rest b =
+-- What a call leaves: it is refused, with 1, exactly where memory is too short, and then all is as it was; else buffer and text are what is kept
+-- and what is listed, and beyond that as they were.
+pub record ListStepLeaves (c : ListCall) : Type 0 where
+  pub refused : IsRefusal (c .answer) ↔ TooShort (c .kept + c .read) (c .buffer) (c .lentFrames) (c .lentText)
+  pub number : IsRefusal (c .answer) → c .answer ≡ Refused 1
+  pub frames : IsRefusal (c .answer) → LeftAlone (c .lentFrames) (c .leftFrames)
+  pub buffer : c .leftBuffer ≡ over (keptBy (c .answer) [] (c .leftBuffer)) (c .buffer)
+  pub text : c .leftText ≡ over (textBy (c .answer) (c .leftText)) (c .lentText)
+
+-- What holds of a line that is listed in blocks.
+pub record ListsTheLine (calls : List ListCall) : Type 1 where
+  -- each call of the list
+  pub each : AllOf ListStepLeaves calls
+  -- the frames certain after the line, and that the whole text is their lines
+  pub certain : Exactly (Certain (heard calls))
+  pub text : listedText calls ≡ linesOf (framesOf (certain .frames))
+  -- what is kept are the bytes from the first place on that may still become a frame and that no taken frame covers
+  pub kept : RestOf (heard calls) (keptAfter [] calls)
+
+-- What the bytes that a call was told of read as.
+abbrev readingOf : ListCall → LineReading
+readingOf c = stepReading (c .kept) (c .read) (isEnd (c .read)) (c .buffer)
+
+-- What a call comes to.
+abbrev Answers : ListCall → Type 0
+Answers c =
+    Listing (c .kept) (c .read) (c .buffer) (c .lentFrames) (c .lentText) (c .answer) (c .leftBuffer) (c .leftFrames) (c .leftText)
+
+-- So a call leaves what it should.
+leaves : {c : ListCall} → Answers c → ListStepLeaves c
+leaves (declines w a b f t) =
+    record { refused = (λ r. w, λ v. rw a tt); number = λ r. a; frames = λ r. f; buffer = rw a b; text = rw a t }
+leaves {c} (lists w a b f t) =
     record {
-      new = b .new;
-      ended = b .ended;
-      lent = b .lentFrames;
-      answer = blockRead (rest ++ b .new) (b .ended) (b .lentFrames) .answer;
-      left = blockRead (rest ++ b .new) (b .ended) (b .lentFrames) .memory;
+      refused = (λ r. absurd (rw a at r), λ v. absurd (w v));
+      number = λ r. absurd (rw a at r);
+      frames = λ r. absurd (rw a at r);
+      buffer = rw (a, b, take-append-seam (readingOf c .kept) _);
+      text = rw (a, t, take-append-seam (linesOf (framesOf (readingOf c .frames))) _);
     }
 
--- Listed blocks as blocks that are read, the first of which begins with a rest.
-abbrev readings : List ℕ → List ListedBlock → List Block
-readings rest [] = []
-readings rest (b ∷ bs) = reading rest b ∷ readings (restBy (b .answer) (rest ++ b .new)) bs
+-- What calls bring, turn by turn.
+record CallsTurn (front : List ℕ) (calls : List ListCall) : Type 0 where
+  frames : List (List ℕ)
+  turns : Turns front (heard calls) frames (keptAfter front calls)
+  text : listedText calls ≡ linesOf frames
+  each : AllOf ListStepLeaves calls
 
--- One block that is listed.
-module _ {rest : List ℕ} {b : ListedBlock} (h : IsListed rest b) where
-  -- It is read.
-  listed-read : IsRead rest (reading rest b)
-  listed-read = record { enough = h .frames; call = refl }
+-- A call that is refused brings nothing.
+call-declines : {front : List ℕ} {c : ListCall} {cs : List ListCall} → ListStepLeaves c → c .answer ≡ Refused 1 →
+    CallsTurn (keptBy (c .answer) front (c .leftBuffer)) cs → CallsTurn front (c ∷ cs)
+call-declines w a t =
+    record { frames = t .frames; turns = rw a (rw a at (t .turns)); text = rw a (t .text); each = (w, t .each) }
 
-  -- What its listing comes to.
-  answered : blockOutcome (b .answer) (b .leftFrames) (b .leftText) ≡
-      readingListed (readingBehind rest (reading rest b)) (length (rest ++ b .new)) (b .lentFrames) (b .lentText)
-  answered = h .call ∙ reading-listed (rest ++ b .new) (b .ended) (b .lentFrames) (b .lentText) (h .text) (h .frames)
+-- Bytes that are read, as symbols: with a silence behind them exactly where there are none.
+brought-symbols : (read : ℕ) (bytes : List ℕ) → length bytes ≡ read → symbols bytes (isEnd read) ≡ brought bytes
+unfolding symbols isEnd
+brought-symbols read [] e = rw (← e)
+brought-symbols read (b ∷ bs) e =
+    let some : eqb read 0 ≡ false = ne-eqb read 0 (λ z. omega arith) in
+    rw some
 
-  -- What it answers.
-  says : b .answer ≡
-      Listed (length (linesOf (framesOf (readingBehind rest (reading rest b) .frames)))) (length (rest ++ b .new) - length (readingBehind rest (reading rest b) .kept))
-  unfolding readingListed
-  says = ap (λ (o : BlockOutcome). o .answer) answered
+-- A call that is not refused brings what its bytes read as.
+module _ {front : List ℕ} {c : ListCall} (h : IsListStep front c) (enough : c .kept + c .read ≤ length (c .buffer))
+    (a : c .answer ≡ Listed (length (linesOf (framesOf (readingOf c .frames)))) (length (readingOf c .kept)))
+    (b : c .leftBuffer ≡ over (readingOf c .kept) (c .buffer)) (t : c .leftText ≡ over (linesOf (framesOf (readingOf c .frames))) (c .lentText)) where
+  call-keeps : readingOf c .kept ≡ keptBy (c .answer) front (c .leftBuffer)
+  call-keeps = rw (a, b, take-append-seam (readingOf c .kept) _)
 
-  -- Listed and read, it leaves the same rest.
-  same-rest : read.restBy (reading rest b .answer) (rest ++ b .new) ≡ restBy (b .answer) (rest ++ b .new)
-  same-rest = rw (says, block-rest listed-read) (sym (rest-there (rest ++ b .new) (b .ended)))
+  call-text : textBy (c .answer) (c .leftText) ≡ linesOf (framesOf (readingOf c .frames))
+  call-text = rw (a, t, take-append-seam (linesOf (framesOf (readingOf c .frames))) _)
 
-  -- The frames that its reading delivers stand end to end.
-  delivered-end-to-end : EndToEnd (deliveredBy (reading rest b .answer) (reading rest b .left))
-  delivered-end-to-end = rw (block-delivers listed-read) (block-end-to-end (rest ++ b .new) (b .ended))
+  new-length : length (newBytes (c .kept) (c .read) (c .buffer)) ≡ c .read
+  new-length = length-take-le (c .read) (drop (c .kept) (c .buffer)) (omega (arith, length-drop (c .kept) (c .buffer)))
 
-  -- Its text is the lines of the frames that its reading delivers.
-  block-text : textBy (b .answer) (b .leftText) ≡ linesOf (cut (deliveredBy (reading rest b .answer) (reading rest b .left)))
-  unfolding readingListed
-  block-text =
-      let lines : List ℕ = linesOf (framesOf (readingBehind rest (reading rest b) .frames)) in
-      let m : b .leftText ≡ over lines (b .lentText) = ap (λ (o : BlockOutcome). o .text) answered in
-      rw (says, m, block-delivers listed-read, block-cut) (take-append-seam lines _)
+  call-brings : Brings front (heardBy (c .answer) (brought (newBytes (c .kept) (c .read) (c .buffer)))) (framesOf (readingOf c .frames))
+      (keptBy (c .answer) front (c .leftBuffer))
+  call-brings =
+      rw (← call-keeps, a, ← brought-symbols (c .read) (newBytes (c .kept) (c .read) (c .buffer)) new-length, h .told)
+      (block-brings front (c .read) (isEnd (c .read)) (c .buffer) (h .begins))
 
--- Blocks that are listed are read.
-listed-reads : (rest : List ℕ) (bs : List ListedBlock) → AreListed rest bs → AreRead rest (readings rest bs)
-listed-reads rest [] h = tt
-listed-reads rest (b ∷ bs) h =
-    (listed-read (h .0), (λ e. rw (h .1 .0 e), rw (same-rest (h .0)) (listed-reads (restBy (b .answer) (rest ++ b .new)) bs (h .1 .1))))
+  call-lists : {cs : List ListCall} → ListStepLeaves c → CallsTurn (keptBy (c .answer) front (c .leftBuffer)) cs → CallsTurn front (c ∷ cs)
+  call-lists w more =
+      record {
+        frames = framesOf (readingOf c .frames) ++ more .frames;
+        turns = turn call-brings (more .turns);
+        text = rw (call-text, more .text, lines-append);
+        each = (w, more .each);
+      }
 
--- The line is the same.
-same-line : (rest : List ℕ) (bs : List ListedBlock) → lineOf (readings rest bs) ≡ listedLine bs
-same-line rest [] = refl
-same-line rest (b ∷ bs) = rw (same-line (restBy (b .answer) (rest ++ b .new)) bs)
+calls-turn : (front : List ℕ) (calls : List ListCall) → ListSteps front calls → CallsTurn front calls
+unfolding linesOf
+calls-turn front [] h = record { frames = []; turns = none; text = refl; each = tt }
+calls-turn front (c ∷ cs) h = go (listing-of (h .0 .call)) (calls-turn (keptBy (c .answer) front (c .leftBuffer)) cs (h .1))
+  where
+    enough : (TooShort (c .kept + c .read) (c .buffer) (c .lentFrames) (c .lentText) → ⊥) → c .kept + c .read ≤ length (c .buffer)
+    enough w = elim (decLt (length (c .buffer)) (c .kept + c .read)) [ yes l ↦ absurd (w (inr (inl l))) | no l ↦ omega arith ]
 
--- So is its end.
-same-end : (rest : List ℕ) (bs : List ListedBlock) → hasEnded (readings rest bs) ≡ listedEnd bs
-same-end rest [] = refl
-same-end rest (b ∷ bs) = rw (same-end (restBy (b .answer) (rest ++ b .new)) bs)
+    go : Answers c → CallsTurn (keptBy (c .answer) front (c .leftBuffer)) cs → CallsTurn front (c ∷ cs)
+    go (declines w a b f t) more = call-declines (leaves (declines w a b f t)) a more
+    go (lists w a b f t) more = call-lists (h .0) (enough w) a b t (leaves (lists w a b f t)) more
 
--- The whole text is the lines of the frames that are delivered in all.
-lines-delivered : (rest : List ℕ) (bs : List ListedBlock) → AreListed rest bs → listedText bs ≡ linesOf (cut (deliveredBytes (readings rest bs)))
-unfolding linesOf cutFrom
-lines-delivered rest [] h = refl
-lines-delivered rest (b ∷ bs) h =
-    let left : List ℕ = restBy (b .answer) (rest ++ b .new) in
-    rw (block-text (h .0), lines-delivered left bs (h .1 .1), cut-append (deliveredBytes (readings left bs)) (delivered-end-to-end (h .0)), lines-append)
+-- The whole text is the lines of what the whole line reads as.
+lines-of : (calls : List ListCall) → ListSteps [] calls → listedText calls ≡ linesOf (framesOf (scan 0 0 (heard calls) .frames))
+lines-of calls h =
+    let t : CallsTurn [] calls = calls-turn [] calls h in
+    t .text ∙ ap linesOf (sym (turns-from-nothing (t .turns) .0))
 
--- Of every list of blocks.
-pub blocks-listed : (blocks : List ListedBlock) → AreListed [] blocks → ListsTheLine blocks
-blocks-listed blocks h =
-    let r : ReadsTheLine (readings [] blocks) = blocks-due (readings [] blocks) (listed-reads [] blocks h) in
-    let whole : AllFrames (r .found .frames) = due-frames (lineOf (readings [] blocks)) (hasEnded (readings [] blocks)) (r .found) in
+-- Of every list of steps from an empty buffer.
+pub blocks-listed : (calls : List ListCall) → ListSteps [] calls → ListsTheLine calls
+blocks-listed calls h =
+    let t : CallsTurn [] calls = calls-turn [] calls h in
     record {
-      found =
-          record {
-            frames = r .found .frames;
-            rising = r .found .rising;
-            exact = rw (same-line [] blocks, same-end [] blocks) at (r .found .exact);
-          };
-      text = rw (lines-delivered [] blocks h, r .delivered, cut-joined (r .found .frames) whole);
+      each = t .each;
+      certain = certain-frames (heard calls);
+      text = lines-of calls h;
+      kept = rw (← turns-from-nothing (t .turns) .1) (scan-rest (heard calls));
     }
+
+-- What holds where the calls brought this input and then its end: the whole text is the lines of the frames taken in the input.
+pub record ListsTheInput (input : List ℕ) (calls : List ListCall) : Type 1 where
+  pub taken : Exactly (Taken (map byte input))
+  pub text : listedText calls ≡ linesOf (framesOf (taken .frames))
+
+pub input-listed : (input : List ℕ) (calls : List ListCall) → ListSteps [] calls → heard calls ≡ map byte input ++ (silence ∷ []) →
+    ListsTheInput input calls
+input-listed input calls h e = record { taken = taken-frames (map byte input); text = rw e at (lines-of calls h) }

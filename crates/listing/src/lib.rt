@@ -1,6 +1,6 @@
 // The line that the listing program of document 01 writes for a frame: the address high byte first, the control code and
 // the unmasked data, in capital hexadecimal digits.
-pub mod block;
+pub mod step;
 
 ghost use mathlib.Core.Path.{_≡_};
 ghost use mathlib.Core.List.{map, reverse, _∷_, _++_, []};

@@ -1,2 +1,3 @@
 pub mod WholeLine
 pub mod WholeLineLaws
+pub mod WholeLineWords

@@ -1,157 +1,225 @@
--- A line cut into blocks anywhere, each begun with the rest of the one before: in all they deliver exactly the frames certain after the
--- whole line and, with its end taken as a silence, exactly the frames taken in it.
-use Prim.Native.Nat.{ℕ, _+_, _-_, _≤_}
+-- A line read in blocks, cut anywhere: one theorem over every list of steps from an empty buffer. In all they deliver exactly the frames
+-- certain after the line that they brought, and keep its rest. The end of a line is a silence, so that what is certain behind it is what is
+-- taken in the line (`ended-taken`).
+use Prim.Native.Nat.{ℕ, _+_, _<_}
 use native.Mathlib.Omega.{arith}
-use native.Mathlib.Nat.{zero-add}
 use mathlib.Core.Path.{_≡_, refl, ap, sym, _∙_}
-use mathlib.Core.Bool.{Bool, true, false, _||_, or-false}
-use mathlib.Core.List.{List, [], _∷_, _++_, map, append-nil, append-assoc}
-use lib.ListN.{length, take, drop}
-use lib.Seq.{take-append-seam}
-use Rattle.laws.specs.Memory.{Outcome, outcome, over}
-use Rattle.line_terms.specs.Line.{byte}
-use Rattle.line_terms.specs.Places.{joined}
+use mathlib.Core.Logic.{_↔_, _⊎_, ⊎-elim}
+use mathlib.Core.Bool.{Bool, true, false}
+use mathlib.Core.List.{List, [], _∷_, _++_, map, map-append, append-assoc, flatten}
+use lib.ListN.{length, take, drop, length-append}
+use lib.Seq.{take-append-seam, take-add}
+use Rattle.laws.specs.All.{AllOf}
+use Rattle.laws.specs.Memory.{over}
+use Rattle.line_terms.specs.Line.{Symbol, byte, Certain}
+use Rattle.line_terms.specs.Rest.{RestOf}
+use Rattle.line_terms.specs.RestLaws.{scan-rest}
+use Rattle.line_terms.specs.Places.{joined, framesOf, Exactly}
+use Rattle.line_terms.specs.PlaceLaws.{joined-frames, count-frames}
 use Rattle.line_terms.specs.Scan.{LineReading, scan}
-use Rattle.line.specs.Demand3.{Exactly}
-use Rattle.line_block.specs.Drain.{symbols}
-use Rattle.line_block.specs.Block.{blockReading, delivered, blockRead}
-use Rattle.line_block.specs.BlockLaws.{read-delivered}
-use Rattle.line_block.specs.RestLaws.{rest-there}
-use Rattle.recording.specs.ReadOnLaws.{more-joined, more-count, more-kept}
-use Rattle.recording.specs.Certain.{Due, due}
-use Rattle.line_block.specs.declared.BlockAnswer.{BlockAnswer}
-use Rattle.line_block.specs.declared.BlockAnswer.the-variants.{Refused, Delivered}
+use Rattle.line_terms.specs.ScanCertain.{certain-frames}
+use Rattle.line_terms.specs.Turns.{Brings, Turns, none, turn, turns-from-nothing}
+use Rattle.line_block.specs.Drain.{symbols, readingFrom}
+use Rattle.line_block.specs.Block.{blockReading}
+use Rattle.recording.specs.Step.{stepOutcome, stepReading, stepRead}
+use Rattle.recording.specs.StepLaws.{Stepping, ignores, delivers, stepping}
+use Rattle.recording.specs.declared.StepAnswer.{StepAnswer}
+use Rattle.recording.specs.declared.StepAnswer.the-variants.{Refused, Delivered}
 
--- A block of a line: the bytes that are new in it, whether the line has ended with them, the memory lent, the answer, and that memory as it
--- stood then.
-pub record Block : Type 0 where
-  pub new : List ℕ
+-- A call of the step: how many bytes it was told are kept, how many are read behind them and whether a silence follows; the line's buffer and
+-- the memory lent, what it answered, and both as they stood then.
+pub record StepCall : Type 0 where
+  pub kept : ℕ
+  pub read : ℕ
   pub ended : Bool
+  pub buffer : List ℕ
   pub lent : List ℕ
-  pub answer : BlockAnswer
+  pub answer : StepAnswer
+  pub leftBuffer : List ℕ
   pub left : List ℕ
 
--- What an answer leaves for the next block: the bytes from the place on that it says.
-abbrev pub restBy : BlockAnswer → List ℕ → List ℕ
-restBy (Refused n) block = block
-restBy (Delivered bytes frames rest) block = drop rest block
+-- What is kept after a call: as many bytes as it says, from the front of the buffer as it left it; what was kept before where it is refused.
+abbrev pub keptBy : StepAnswer → List ℕ → List ℕ → List ℕ
+keptBy (Refused n) front left = front
+keptBy (Delivered bytes frames kept) front left = take kept left
+
+-- What is kept after a list of calls.
+abbrev pub keptAfter : List ℕ → List StepCall → List ℕ
+keptAfter front [] = front
+keptAfter front (c ∷ cs) = keptAfter (keptBy (c .answer) front (c .leftBuffer)) cs
+
+-- A call is told how many bytes are kept, its buffer begins with them, and it answers what its `ensures` says.
+pub record IsStep (front : List ℕ) (c : StepCall) : Type 0 where
+  pub told : c .kept ≡ length front
+  pub begins : take (length front) (c .buffer) ≡ front
+  pub call : stepOutcome (c .answer) (c .leftBuffer) (c .left) ≡ stepRead (c .kept) (c .read) (c .ended) (c .buffer) (c .lent)
+
+-- Calls one after the other, each with what the last one kept.
+abbrev pub Steps : List ℕ → List StepCall → Type 0
+Steps front [] = Unit
+Steps front (c ∷ cs) = IsStep front c × Steps (keptBy (c .answer) front (c .leftBuffer)) cs
+
+-- The bytes that stand behind those kept, as many as were read.
+abbrev pub newBytes : ℕ → ℕ → List ℕ → List ℕ
+newBytes kept read buffer = take read (drop kept buffer)
+
+-- What an answer adds to the line: the symbols that the call brought, and nothing where it is refused.
+abbrev pub heardBy : StepAnswer → List Symbol → List Symbol
+heardBy (Refused n) brought = []
+heardBy (Delivered bytes frames kept) brought = brought
+
+-- The line: what the calls not refused brought, their new bytes and a silence behind them where it has ended.
+abbrev pub heard : List StepCall → List Symbol
+heard [] = []
+heard (c ∷ cs) = heardBy (c .answer) (symbols (newBytes (c .kept) (c .read) (c .buffer)) (c .ended)) ++ heard cs
 
 -- What an answer delivers: as many bytes as it says, from the front of the memory; and the number of frames that it says.
-abbrev pub deliveredBy : BlockAnswer → List ℕ → List ℕ
+abbrev pub deliveredBy : StepAnswer → List ℕ → List ℕ
 deliveredBy (Refused n) left = []
-deliveredBy (Delivered bytes frames rest) left = take bytes left
+deliveredBy (Delivered bytes frames kept) left = take bytes left
 
-abbrev pub countedBy : BlockAnswer → ℕ
-countedBy (Refused n) = 0
-countedBy (Delivered bytes frames rest) = frames
-
--- What the `ensures` of the call says of a block that begins with a rest, and that it was lent as much memory as the block is long.
-pub record IsRead (rest : List ℕ) (b : Block) : Type 0 where
-  pub enough : length (rest ++ b .new) ≤ length (b .lent)
-  pub call : outcome (b .answer) (b .left) ≡ blockRead (rest ++ b .new) (b .ended) (b .lent)
-
--- Blocks read one after the other, each begun with the rest of the one before; the line ends with the last of them or not at all.
-abbrev pub AreRead : List ℕ → List Block → Type 0
-AreRead rest [] = Unit
-AreRead rest (b ∷ bs) = IsRead rest b × ((b .ended ≡ true → bs ≡ []) × AreRead (restBy (b .answer) (rest ++ b .new)) bs)
-
--- The whole line, whether it has ended, all that was delivered, joined, and all frames that were counted.
-abbrev pub lineOf : List Block → List ℕ
-lineOf [] = []
-lineOf (b ∷ bs) = b .new ++ lineOf bs
-
-abbrev pub hasEnded : List Block → Bool
-hasEnded [] = false
-hasEnded (b ∷ bs) = b .ended || hasEnded bs
-
-abbrev pub deliveredBytes : List Block → List ℕ
+abbrev pub deliveredBytes : List StepCall → List ℕ
 deliveredBytes [] = []
-deliveredBytes (b ∷ bs) = deliveredBy (b .answer) (b .left) ++ deliveredBytes bs
+deliveredBytes (c ∷ cs) = deliveredBy (c .answer) (c .left) ++ deliveredBytes cs
 
-abbrev pub countedFrames : List Block → ℕ
+abbrev pub countedBy : StepAnswer → ℕ
+countedBy (Refused n) = 0
+countedBy (Delivered bytes frames kept) = frames
+
+abbrev pub countedFrames : List StepCall → ℕ
 countedFrames [] = 0
-countedFrames (b ∷ bs) = countedBy (b .answer) + countedFrames bs
+countedFrames (c ∷ cs) = countedBy (c .answer) + countedFrames cs
 
--- What holds of a line that is read in blocks: the frames due after the whole line are what was delivered and counted in all.
-pub record ReadsTheLine (blocks : List Block) : Type 1 where
-  pub found : Exactly (Due (lineOf blocks) (hasEnded blocks))
-  pub delivered : deliveredBytes blocks ≡ joined (found .frames)
-  pub counted : countedFrames blocks ≡ length (found .frames)
+-- The answer is a refusal.
+abbrev pub IsRefusal : StepAnswer → Type 0
+IsRefusal (Refused n) = Unit
+IsRefusal (Delivered bytes frames kept) = ⊥
 
--- What a block reads as that begins with a rest.
-abbrev pub readingBehind : List ℕ → Block → LineReading
-readingBehind rest b = blockReading (rest ++ b .new) (b .ended)
+-- What a call leaves: it is refused, with 1, exactly where the buffer or the memory is shorter than the bytes it was told of, and then both
+-- are as they were; else both are what is kept and what is delivered, and beyond that as they were.
+pub record StepLeaves (c : StepCall) : Type 0 where
+  pub refused : IsRefusal (c .answer) ↔ ((length (c .buffer) < c .kept + c .read) ⊎ (length (c .lent) < c .kept + c .read))
+  pub number : IsRefusal (c .answer) → c .answer ≡ Refused 1
+  pub buffer : c .leftBuffer ≡ over (keptBy (c .answer) [] (c .leftBuffer)) (c .buffer)
+  pub memory : c .left ≡ over (deliveredBy (c .answer) (c .left)) (c .lent)
 
--- What one block leaves, delivers and counts.
-module _ {rest : List ℕ} {b : Block} (h : IsRead rest b) where
-  answered : outcome (b .answer) (b .left) ≡ delivered (readingBehind rest b) (length (rest ++ b .new)) (b .lent)
-  answered = h .call ∙ read-delivered (rest ++ b .new) (b .lent) (b .ended) (h .enough)
+-- What holds of a line that is read in blocks.
+pub record ReadsTheLine (calls : List StepCall) : Type 1 where
+  -- each call of the list
+  pub each : AllOf StepLeaves calls
+  -- the frames certain after the line, and that all that was delivered, joined, and all that was counted is theirs
+  pub certain : Exactly (Certain (heard calls))
+  pub delivered : deliveredBytes calls ≡ joined (certain .frames)
+  pub counted : countedFrames calls ≡ length (certain .frames)
+  -- what is kept are the bytes from the first place on that may still become a frame and that no taken frame covers
+  pub kept : RestOf (heard calls) (keptAfter [] calls)
 
-  says : b .answer ≡
-      Delivered (length (joined (readingBehind rest b .frames))) (length (readingBehind rest b .frames)) (length (rest ++ b .new) - length (readingBehind rest b .kept))
-  unfolding delivered
-  says = ap (λ (o : Outcome BlockAnswer). o .answer) answered
+-- What the bytes that a call was told of read as.
+abbrev pub readingOf : StepCall → LineReading
+readingOf c = stepReading (c .kept) (c .read) (c .ended) (c .buffer)
 
-  pub block-rest : restBy (b .answer) (rest ++ b .new) ≡ readingBehind rest b .kept
-  block-rest = rw says (rest-there (rest ++ b .new) (b .ended))
+-- What a call comes to.
+abbrev Answers : StepCall → Type 0
+Answers c = Stepping (c .kept) (c .read) (c .ended) (c .buffer) (c .lent) (c .answer) (c .leftBuffer) (c .left)
 
-  pub block-delivers : deliveredBy (b .answer) (b .left) ≡ joined (readingBehind rest b .frames)
-  unfolding delivered
-  block-delivers =
-      let m : b .left ≡ over (joined (readingBehind rest b .frames)) (b .lent) = ap (λ (o : Outcome BlockAnswer). o .memory) answered in
-      rw (says, m) (take-append-seam (joined (readingBehind rest b .frames)) _)
-
-  block-counts : countedBy (b .answer) ≡ length (readingBehind rest b .frames)
-  block-counts = rw says
-
--- How a line goes on in blocks from what was read of it before.
-record GoesOn (line : List ℕ) (bs : List Block) : Type 0 where
-  bytes : joined (scan 0 0 (symbols (line ++ lineOf bs) (hasEnded bs)) .frames) ≡ joined (scan 0 0 (map byte line) .frames) ++ deliveredBytes bs
-  count : length (scan 0 0 (symbols (line ++ lineOf bs) (hasEnded bs)) .frames) ≡ length (scan 0 0 (map byte line) .frames) + countedFrames bs
-
--- The line ends with this block.
-last-block : (line rest : List ℕ) (b : Block) → rest ≡ scan 0 0 (map byte line) .kept → IsRead rest b → GoesOn line (b ∷ [])
-last-block line rest b e h =
+-- So a call leaves what it should.
+leaves : {c : StepCall} → Answers c → StepLeaves c
+leaves (ignores w a b m) = record { refused = (λ r. w, λ v. rw a tt); number = λ r. a; buffer = rw a b; memory = rw a m }
+leaves {c} (delivers b m a f o) =
     record {
-      bytes = rw (append-nil (b .new), or-false, more-joined line (b .new) rest (b .ended) e, block-delivers h, append-nil);
-      count = rw (append-nil (b .new), or-false, more-count line (b .new) rest (b .ended) e, block-counts h) (omega arith);
+      refused = (λ r. absurd (rw a at r), ⊎-elim (λ l. absurd (omega arith)) (λ l. absurd (omega arith)));
+      number = λ r. absurd (rw a at r);
+      buffer = rw (a, f, take-append-seam (readingOf c .kept) _);
+      memory = rw (a, o, take-append-seam (joined (readingOf c .frames)) _);
     }
 
--- Others come behind it, and go on from the line with its new bytes.
-first-block : (line rest : List ℕ) (b : Block) (bs : List Block) → rest ≡ scan 0 0 (map byte line) .kept → IsRead rest b → b .ended ≡ false →
-    GoesOn (line ++ b .new) bs → GoesOn line (b ∷ bs)
+-- The symbols of bytes joined.
+symbols-append : (a b : List ℕ) (ended : Bool) → symbols (a ++ b) ended ≡ map byte a ++ symbols b ended
 unfolding symbols
-first-block line rest b bs e h f g =
-    let j : joined (scan 0 0 (map byte (line ++ b .new)) .frames) ≡ joined (scan 0 0 (map byte line) .frames) ++ joined (blockReading (rest ++ b .new) false .frames) =
-    more-joined line (b .new) rest false e in
-    let n : length (scan 0 0 (map byte (line ++ b .new)) .frames) ≡ length (scan 0 0 (map byte line) .frames) + length (blockReading (rest ++ b .new) false .frames) =
-    more-count line (b .new) rest false e in
-    let d : deliveredBy (b .answer) (b .left) ≡ joined (blockReading (rest ++ b .new) false .frames) = rw f at (block-delivers h) in
-    let c : countedBy (b .answer) ≡ length (blockReading (rest ++ b .new) false .frames) = rw f at (block-counts h) in
-    let gb : joined (scan 0 0 (symbols (line ++ b .new ++ lineOf bs) (hasEnded bs)) .frames) ≡ joined (scan 0 0 (map byte (line ++ b .new)) .frames) ++ deliveredBytes bs = g .bytes in
-    let gc : length (scan 0 0 (symbols (line ++ b .new ++ lineOf bs) (hasEnded bs)) .frames) ≡ length (scan 0 0 (map byte (line ++ b .new)) .frames) + countedFrames bs = g .count in
+symbols-append a b true = rw (map-append, append-assoc)
+symbols-append a b false = rw map-append
+
+-- A block as symbols: the bytes kept, and then those that are read behind them.
+module _ (front : List ℕ) (read : ℕ) (ended : Bool) (buffer : List ℕ) (begins : take (length front) buffer ≡ front) where
+  block-symbols : symbols (take (length front + read) buffer) ended ≡ map byte front ++ symbols (newBytes (length front) read buffer) ended
+  block-symbols =
+      let split : take (length front + read) buffer ≡ front ++ newBytes (length front) read buffer =
+      take-add (length front) read buffer ∙ ap (λ (l : List ℕ). l ++ newBytes (length front) read buffer) begins in
+      rw (split, symbols-append)
+
+  -- So these symbols bring what the block reads as.
+  pub block-brings : Brings front (symbols (newBytes (length front) read buffer) ended)
+      (framesOf (stepReading (length front) read ended buffer .frames)) (stepReading (length front) read ended buffer .kept)
+  unfolding blockReading readingFrom
+  block-brings = record { found = ap (λ (l : List Symbol). framesOf (scan 0 0 l .frames)) block-symbols; keeps = ap (λ (l : List Symbol). scan 0 0 l .kept) block-symbols }
+
+flatten-append : (a b : List (List ℕ)) → flatten (a ++ b) ≡ flatten a ++ flatten b
+unfolding flatten
+flatten-append [] b = refl
+flatten-append (l ∷ a) b = rw (flatten-append a b, append-assoc)
+
+-- What calls bring, turn by turn.
+record CallsTurn (front : List ℕ) (calls : List StepCall) : Type 0 where
+  frames : List (List ℕ)
+  turns : Turns front (heard calls) frames (keptAfter front calls)
+  bytes : deliveredBytes calls ≡ flatten frames
+  count : countedFrames calls ≡ length frames
+  each : AllOf StepLeaves calls
+
+-- A call that is refused brings nothing.
+call-ignores : {front : List ℕ} {c : StepCall} {cs : List StepCall} → StepLeaves c → c .answer ≡ Refused 1 →
+    CallsTurn (keptBy (c .answer) front (c .leftBuffer)) cs → CallsTurn front (c ∷ cs)
+call-ignores w a t =
     record {
-      bytes = rw (f, ← append-assoc line (b .new) (lineOf bs), gb, j, d) (append-assoc (joined (scan 0 0 (map byte line) .frames)) (joined (blockReading (rest ++ b .new) false .frames)) (deliveredBytes bs));
-      count = rw (f, ← append-assoc line (b .new) (lineOf bs), gc, n, c) (omega arith);
+      frames = t .frames;
+      turns = rw a (rw a at (t .turns));
+      bytes = rw a (t .bytes);
+      count = rw a (omega (arith, t .count));
+      each = (w, t .each);
     }
 
-goes-on : (line rest : List ℕ) (bs : List Block) → rest ≡ scan 0 0 (map byte line) .kept → AreRead rest bs → GoesOn line bs
-unfolding symbols
-goes-on line rest [] e h = record { bytes = rw (append-nil line, append-nil); count = rw (append-nil line) (omega arith) }
-goes-on line rest (b ∷ bs) e h = by (b .ended) refl (goes-on (line ++ b .new) (restBy (b .answer) (rest ++ b .new)) bs)
+-- A call that is not refused brings what its block reads as.
+module _ {front : List ℕ} {c : StepCall} (h : IsStep front c)
+    (a : c .answer ≡ Delivered (length (joined (readingOf c .frames))) (length (readingOf c .frames)) (length (readingOf c .kept)))
+    (b : c .leftBuffer ≡ over (readingOf c .kept) (c .buffer)) (m : c .left ≡ over (joined (readingOf c .frames)) (c .lent)) where
+  call-keeps : readingOf c .kept ≡ keptBy (c .answer) front (c .leftBuffer)
+  call-keeps = rw (a, b, take-append-seam (readingOf c .kept) _)
+
+  call-bytes : deliveredBy (c .answer) (c .left) ≡ flatten (framesOf (readingOf c .frames))
+  call-bytes = rw (a, m, take-append-seam (joined (readingOf c .frames)) _) (joined-frames (readingOf c .frames))
+
+  call-brings : Brings front (heardBy (c .answer) (symbols (newBytes (c .kept) (c .read) (c .buffer)) (c .ended)))
+      (framesOf (readingOf c .frames)) (keptBy (c .answer) front (c .leftBuffer))
+  call-brings = rw (← call-keeps, a, h .told) (block-brings front (c .read) (c .ended) (c .buffer) (h .begins))
+
+  call-delivers : {cs : List StepCall} → StepLeaves c → CallsTurn (keptBy (c .answer) front (c .leftBuffer)) cs → CallsTurn front (c ∷ cs)
+  call-delivers w t =
+      record {
+        frames = framesOf (readingOf c .frames) ++ t .frames;
+        turns = turn call-brings (t .turns);
+        bytes = rw (call-bytes, t .bytes, flatten-append);
+        count = rw (a, length-append, count-frames (readingOf c .frames), t .count);
+        each = (w, t .each);
+      }
+
+calls-turn : (front : List ℕ) (calls : List StepCall) → Steps front calls → CallsTurn front calls
+unfolding flatten
+calls-turn front [] h = record { frames = []; turns = none; bytes = refl; count = refl; each = tt }
+calls-turn front (c ∷ cs) h = go (stepping (h .0 .call)) (calls-turn (keptBy (c .answer) front (c .leftBuffer)) cs (h .1))
   where
-    by : (t : Bool) → b .ended ≡ t →
-        (restBy (b .answer) (rest ++ b .new) ≡ scan 0 0 (map byte (line ++ b .new)) .kept → AreRead (restBy (b .answer) (rest ++ b .new)) bs → GoesOn (line ++ b .new) bs) →
-        GoesOn line (b ∷ bs)
-    by true t on = rw (h .1 .0 t) (last-block line rest b e (h .0))
-    by false f on =
-        let left : restBy (b .answer) (rest ++ b .new) ≡ blockReading (rest ++ b .new) false .kept = rw f at (block-rest (h .0)) in
-        first-block line rest b bs e (h .0) f (on (left ∙ sym (more-kept line (b .new) rest false e)) (h .1 .1))
+    go : Answers c → CallsTurn (keptBy (c .answer) front (c .leftBuffer)) cs → CallsTurn front (c ∷ cs)
+    go (ignores w a b m) t = call-ignores (leaves (ignores w a b m)) a t
+    go (delivers w v a b m) t = call-delivers (h .0) a b m (leaves (delivers w v a b m)) t
 
--- Of every list of blocks.
-pub blocks-due : (blocks : List Block) → AreRead [] blocks → ReadsTheLine blocks
-unfolding scan joined
-blocks-due blocks h =
-    let g : GoesOn [] blocks = goes-on [] [] blocks refl h in
-    let n : length (scan 0 0 (symbols (lineOf blocks) (hasEnded blocks)) .frames) ≡ 0 + countedFrames blocks = g .count in
-    record { found = due (lineOf blocks) (hasEnded blocks); delivered = sym (g .bytes); counted = sym (n ∙ zero-add (countedFrames blocks)) }
+-- Of every list of steps from an empty buffer.
+pub blocks-due : (calls : List StepCall) → Steps [] calls → ReadsTheLine calls
+blocks-due calls h =
+    let t : CallsTurn [] calls = calls-turn [] calls h in
+    let r = turns-from-nothing (t .turns) in
+    record {
+      each = t .each;
+      certain = certain-frames (heard calls);
+      delivered = t .bytes ∙ ap flatten (sym (r .0)) ∙ sym (joined-frames (scan 0 0 (heard calls) .frames));
+      counted = t .count ∙ ap length (sym (r .0)) ∙ sym (count-frames (scan 0 0 (heard calls) .frames));
+      kept = rw (← r .1) (scan-rest (heard calls));
+    }

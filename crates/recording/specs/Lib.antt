@@ -1,6 +1,4 @@
-pub mod Rest
-pub mod KeepLaws
-pub mod ReadOnLaws
-pub mod Certain
+pub mod Step
+pub mod MoveLaws
+pub mod StepLaws
 pub mod Blocks
-pub mod Examples

@@ -2,16 +2,16 @@
 ghost use Prim.Native.Nat.{_≤_, _<_};
 ghost use lib.ListN.{length};
 use line_block::BlockAnswer;
-use line_verdict::MOST_KEPT;
+use recording::StepAnswer;
 use run_text::heard::Gathered;
 
-// What the blocks so far leave: how many bytes of their rest stand at the front of the block's buffer, and what is gathered.
+// What the steps so far leave: how many bytes are kept at the front of the buffer, and what is gathered.
 struct Progress {
     kept: usize,
     gathered: Gathered,
 }
 
-// After a block that went wrong; its rest is given up.
+// After a step that went wrong; nothing is kept.
 fn spoilt() -> Progress {
     Progress {
         kept: 0,
@@ -30,41 +30,7 @@ fn least(a: usize, b: usize) -> usize
     b
 }
 
-// Reads the first `n` bytes of the buffer as a block, and moves its rest to the front, which is at most 211 bytes.
-fn read_filled(
-    before: Progress,
-    n: usize,
-    ended: bool,
-    block: &mut [u8],
-    out: &mut [u8],
-) -> Progress
-    requires { ⌜ n ≤ length (now block) ⌝ }
-{
-    let gathered = before.gathered;
-    let start = gathered.bytes;
-    if out.len() < start {
-        return spoilt();
-    }
-    let answer = line_block::read_block(&block[..n], ended, &mut out[start..]);
-    let BlockAnswer::Delivered {
-        bytes,
-        frames,
-        rest,
-    } = answer
-    else {
-        return spoilt();
-    };
-    let kept = recording::rest::keep_rest(block, rest, n);
-    if MOST_KEPT < kept {
-        return spoilt();
-    }
-    Progress {
-        kept,
-        gathered: gathered.more(bytes, frames),
-    }
-}
-
-// Reads a block: the rest of the one before, which stands at the front of the buffer, and behind it a part of the line.
+// Reads a part of the line behind what the steps before keep at the front of the buffer.
 fn read_part(
     before: Progress,
     part: &[u8],
@@ -73,14 +39,31 @@ fn read_part(
     out: &mut [u8],
 ) -> Progress {
     let kept = before.kept;
+    let gathered = before.gathered;
+    let start = gathered.bytes;
     if block.len() < kept {
         return spoilt();
     }
     if block.len() - kept < part.len() {
         return spoilt();
     }
+    if out.len() < start {
+        return spoilt();
+    }
     bytes::copy(part, &mut block[kept..]);
-    read_filled(before, kept + part.len(), ended, block, out)
+    let answer = recording::read_step(block, kept, part.len(), ended, &mut out[start..]);
+    let StepAnswer::Delivered {
+        bytes,
+        frames,
+        kept: left,
+    } = answer
+    else {
+        return spoilt();
+    };
+    Progress {
+        kept: left,
+        gathered: gathered.more(bytes, frames),
+    }
 }
 
 // Reads the line in blocks that bring `size` bytes each, while more than `last` are left; what is left then comes with the end.
