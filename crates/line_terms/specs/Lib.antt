@@ -10,4 +10,3 @@ pub mod FoundFrames
 pub mod TakenLaws
 pub mod ScanCertain
 pub mod Closed
-pub mod Examples
