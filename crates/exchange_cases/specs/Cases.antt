@@ -8,7 +8,7 @@ use lib.ListN.{length, take, replicate}
 use lib.Seq.{drop-nil}
 use borrow.Author.Tests.{le-leb}
 use native.Mathlib.Omega.{arith}
-use Rattle.frame.specs.Examples.{one, caseA, caseB, caseC, caseD, caseE, caseI}
+use Rattle.frame.specs.CaseFrames.{one, caseA, caseB, caseC, caseD, caseE, caseI}
 use Rattle.laws.specs.All.{allOf}
 use Rattle.laws.specs.Memory.{Outcome, outcome, over}
 use Rattle.frame.specs.Frame.{total, checksumOf, masked, unmasked, summed, frameOf, addressOf, controlOf, lengthOf, fieldOf, dataOf, frameFor}
@@ -65,6 +65,8 @@ use Rattle.reader_judgement.specs.declared.Judgement.the-variants.{Value, Error
 pub data Case : Type 0 where
   -- A line, and the frames that are taken and certain in it, with their places.
   line : List Symbol → List Found → Case
+  -- A line with its frames, symbols that come behind it, and the frames of the line with them.
+  goesOn : List Symbol → List Found → List Symbol → List Found → Case
   -- A request, and the bytes that the reader sends.
   request : Request → List ℕ → Case
   -- A frame put to a meter with these forward readings: the reply, and the meter afterwards.
@@ -136,38 +138,44 @@ unknownRead = 0x68 ∷ 0x01 ∷ 0x00 ∷ 0x00 ∷ 0x00 ∷ 0x00 ∷ 0x00 ∷ 0x6
 -- The table.
 pub table : List Case
 table =
-    -- A
+    -- A: the request for the current forward total; on the line its frame alone, and behind wake-up bytes.
     request readTotal (wakeUp ++ caseA)
+    ∷ line (map byte caseA) (at 0 caseA ∷ [])
     ∷ line (map byte (wakeUp ++ caseA)) (at 4 caseA ∷ [])
-    -- B
+    -- B: the reply for 123456.78.
     ∷ answer caseA meter total12345678 caseB meter
     ∷ judgement readTotal caseB (Value 4) (0x78 ∷ 0x56 ∷ 0x34 ∷ 0x12 ∷ [])
-    -- C
+    -- C: the request for the address, and the reply.
     ∷ request readAddress (wakeUp ++ caseC)
     ∷ answer caseC meter total12345678 addressReply meter
     ∷ judgement readAddress addressReply (Value 6) one
-    -- D
+    -- D: unknown identifier.
     ∷ answer unknownRead meter total12345678 caseD meter
     ∷ judgement readTotal caseD (Error 0x02) []
-    -- E
+    -- E: period to 30, level 04, zero password and operator; with the key on, the reply; with the key off, error 04.
     ∷ request writePeriod (wakeUp ++ caseE)
     ∷ answer caseE keyOn total12345678 writeReply periodSet
     ∷ judgement writePeriod writeReply (Value 0) []
     ∷ answer caseE meter total12345678 errorReply meter
     ∷ judgement writePeriod errorReply (Error 0x04) []
-    -- F
+    -- F: a lone 68 and then A: A is taken, at place 1.
     ∷ line (map byte (0x68 ∷ caseA)) (at 1 caseA ∷ [])
-    -- G
-    ∷ line (map byte (take 15 caseA) ++ (silence ∷ byte 0x16 ∷ [])) []
-    -- H
-    ∷ line (map byte (take 15 caseA)) []
-    -- I
+    -- G: A with a silence before its last byte: none, neither at the silence nor with the last byte, 16, behind it.
+    ∷ goesOn (map byte (take 15 caseA) ++ (silence ∷ [])) [] (byte 0x16 ∷ []) []
+    -- H: A without its last byte: none yet; with that byte, 16, behind it A is taken, at place 0.
+    ∷ goesOn (map byte (take 15 caseA)) [] (byte 0x16 ∷ []) (at 0 caseA ∷ [])
+    -- I: A with checksum B4, then A: the second only.
     ∷ line (map byte (caseI ++ caseA)) (at 16 caseA ∷ [])
     ∷ []
 
+-- What a line comes to by computation, as it stands and with a silence behind it.
+abbrev LineComputes : List Symbol → List Found → Type 0
+LineComputes symbols frames = (scan 0 0 symbols .frames ≡ frames) × (scan 0 0 (symbols ++ (silence ∷ [])) .frames ≡ frames)
+
 -- What each row comes to by computation.
 abbrev Computes : Case → Type 0
-Computes (line symbols frames) = (scan 0 0 symbols .frames ≡ frames) × (scan 0 0 (symbols ++ (silence ∷ [])) .frames ≡ frames)
+Computes (line symbols frames) = LineComputes symbols frames
+Computes (goesOn symbols frames behind then) = LineComputes symbols frames × LineComputes (symbols ++ behind) then
 Computes (request asked bytes) = (isAllowed asked ≡ true) × (requestBytes asked ≡ bytes)
 Computes (answer bytes m forward reply after) =
     (withinRanges m forward zeroRows ≡ true)
@@ -182,7 +190,7 @@ AllCompute (c ∷ cases) = Computes c × AllCompute cases
 
 computed : AllCompute table
 unfolding scan readingBy before begins broken bytesBefore recognised recognisedBody recognisedEnd isAll exactlyOne checksumOf total lengthOf fieldOf dataOf unmasked masked summed frameOf frameFor addressOf controlOf isGood lowBytes hasShortForm isShort digitsAt within minutesInRange inRange contentOf isDecimal firstBadFrom firstBad allDecimal digits lowDigits packed controlCode replyTo same itemOf energyItem readings otherRows found readingInRange readingBytes rowInRange rowsInRange readingAt columnBytes columnsBytes withPart passwordAt locationOf heldAt holding.valueHeld registersWith holding.withinRanges freshMeter commandOf namesMeter addressed identifierOf itemAsked levelOf passwordOf operatorOf writtenValue authorised checksOf replyData untouched meterAfter carriedOut treated delivered requestValue addressAllowed valueConditions conditionsOf admission isAllowed identifierBytes sentData requestFrame requestBytes firstFailing isNormal isError answersFrom isAnswer errorChecks normalChecks replyValue dataJudgement judgementOf table readingOf allOf contentChecks isJudged callChecks frameChecks beforeSilence
-computed = ((refl, refl), ((refl, refl), ((refl, refl, refl), ((refl, refl), ((refl, refl), ((refl, refl, refl), ((refl, refl), ((refl, refl, refl), ((refl, refl), ((refl, refl), ((refl, refl, refl), ((refl, refl), ((refl, refl, refl), ((refl, refl), ((refl, refl), ((refl, refl), ((refl, refl), ((refl, refl), tt))))))))))))))))))
+computed = ((refl, refl), ((refl, refl), ((refl, refl), ((refl, refl, refl), ((refl, refl), ((refl, refl), ((refl, refl, refl), ((refl, refl), ((refl, refl, refl), ((refl, refl), ((refl, refl), ((refl, refl, refl), ((refl, refl), ((refl, refl, refl), ((refl, refl), ((refl, refl), (((refl, refl), (refl, refl)), (((refl, refl), (refl, refl)), ((refl, refl), tt)))))))))))))))))))
 
 -- A line: the frames listed are the certain ones, and those that every choice that keeps the rule takes; and calls of a fresh receiver
 -- that heard this line have handed on their bytes.
@@ -207,6 +215,7 @@ pub record JudgementCase (asked : Request) (bytes : List ℕ) (says : Judgement)
 -- What each row says.
 abbrev pub Says : Case → Type 1
 Says (line symbols frames) = LineCase symbols frames
+Says (goesOn symbols frames behind then) = LineCase symbols frames × LineCase (symbols ++ behind) then
 Says (request asked bytes) = RequestCase asked bytes
 Says (answer bytes m forward reply after) = AnswerCase bytes m forward reply after
 Says (judgement asked bytes says value) = JudgementCase asked bytes says value
@@ -236,10 +245,9 @@ written-over (Value n) given value m e = rw (← rw (drop-nil, append-nil) at e)
 written-over (Error b) given value m e = rw (← e)
 written-over (Refused n) given value m e = rw (← e)
 
--- A row that computes is so.
-computes-says : (c : Case) → Computes c → Says c
-unfolding built judged
-computes-says (line symbols frames) h =
+-- A line that computes is so.
+line-computes-says : (symbols : List Symbol) (frames : List Found) → LineComputes symbols frames → LineCase symbols frames
+line-computes-says symbols frames h =
     record {
       certain = certain;
       taken = λ taken keeps place frame. rw (h .1) at (taken-found symbols taken keeps place frame);
@@ -261,6 +269,13 @@ computes-says (line symbols frames) h =
         ∙ ap joined
         (rising-same (found .frames) frames (found .rising) rising (λ f m. certain (f .place) (f .frame) .1 (exact (f .place) (f .frame) .0 m))
         (λ f m. exact (f .place) (f .frame) .1 (certain (f .place) (f .frame) .0 m)))
+
+-- A row that computes is so.
+computes-says : (c : Case) → Computes c → Says c
+unfolding built judged
+computes-says (line symbols frames) h = line-computes-says symbols frames h
+computes-says (goesOn symbols frames behind then) h =
+    (line-computes-says symbols frames (h .0), line-computes-says (symbols ++ behind) then (h .1))
 computes-says (request asked bytes) h = record { sent = λ m room. rw (le-leb 66 (length m) room, h .0, h .1) }
 computes-says (answer bytes m forward reply after) h =
     record {

@@ -8,4 +8,5 @@ pub mod FrameLaws
 pub mod StageLaws
 pub mod RecognitionLaws
 pub mod EndToEndLaws
+pub mod CaseFrames
 pub mod Examples

@@ -3,4 +3,3 @@ pub mod CommandLaws
 pub mod Addressee
 pub mod AddresseeLaws
 pub mod Reply
-pub mod Examples

@@ -1,4 +1,3 @@
 pub mod Decimal
 pub mod DecimalLaws
 pub mod PackLaws
-pub mod Examples

@@ -13,4 +13,3 @@ pub mod TakenLaws
 pub mod ScanCertain
 pub mod Closed
 pub mod RestLaws
-pub mod Examples

@@ -10,4 +10,3 @@ pub mod Writes
 pub mod Silence
 pub mod Replies
 pub mod Calls
-pub mod Examples
