@@ -31,6 +31,8 @@ use Rattle.line_terms.specs.Scan.{scan, readingBy, before, begins, beforeSilenc
 use Rattle.line.specs.Receiver.{fresh}
 use Rattle.line_terms.specs.ScanLaws.{scan-rising}
 use Rattle.line_terms.specs.Closed.{taken-found}
+use Rattle.line_terms.specs.Rest.{RestOf}
+use Rattle.line_terms.specs.RestLaws.{scan-rest}
 use Rattle.line_terms.specs.ScanCertain.{found-certain, certain-found}
 use Rattle.line.specs.Demand3.{Calls, heard, deliveredBytes, demand-3, ReceiverCall}
 use Rattle.meter.specs.Meter.{withKey, withRegisters, withinRanges, freshMeter, untouched}
@@ -63,10 +65,10 @@ use Rattle.reader_judgement.specs.declared.Judgement.the-variants.{Value, Error
 
 -- A row of the table.
 pub data Case : Type 0 where
-  -- A line, and the frames that are taken and certain in it, with their places.
-  line : List Symbol → List Found → Case
-  -- A line with its frames, symbols that come behind it, and the frames of the line with them.
-  goesOn : List Symbol → List Found → List Symbol → List Found → Case
+  -- A line, the frames that are taken and certain in it, with their places, and the bytes that are its rest.
+  line : List Symbol → List Found → List ℕ → Case
+  -- A line with its frames and rest, symbols that come behind it, and the frames and the rest of the line with them.
+  goesOn : List Symbol → List Found → List ℕ → List Symbol → List Found → List ℕ → Case
   -- A request, and the bytes that the reader sends.
   request : Request → List ℕ → Case
   -- A frame put to a meter with these forward readings: the reply, and the meter afterwards.
@@ -140,8 +142,8 @@ pub table : List Case
 table =
     -- A: the request for the current forward total; on the line its frame alone, and behind wake-up bytes.
     request readTotal (wakeUp ++ caseA)
-    ∷ line (map byte caseA) (at 0 caseA ∷ [])
-    ∷ line (map byte (wakeUp ++ caseA)) (at 4 caseA ∷ [])
+    ∷ line (map byte caseA) (at 0 caseA ∷ []) []
+    ∷ line (map byte (wakeUp ++ caseA)) (at 4 caseA ∷ []) []
     -- B: the reply for 123456.78.
     ∷ answer caseA meter total12345678 caseB meter
     ∷ judgement readTotal caseB (Value 4) (0x78 ∷ 0x56 ∷ 0x34 ∷ 0x12 ∷ [])
@@ -159,23 +161,24 @@ table =
     ∷ answer caseE meter total12345678 errorReply meter
     ∷ judgement writePeriod errorReply (Error 0x04) []
     -- F: a lone 68 and then A: A is taken, at place 1.
-    ∷ line (map byte (0x68 ∷ caseA)) (at 1 caseA ∷ [])
+    ∷ line (map byte (0x68 ∷ caseA)) (at 1 caseA ∷ []) []
     -- G: A with a silence before its last byte: none, neither at the silence nor with the last byte, 16, behind it.
-    ∷ goesOn (map byte (take 15 caseA) ++ (silence ∷ [])) [] (byte 0x16 ∷ []) []
+    ∷ goesOn (map byte (take 15 caseA) ++ (silence ∷ [])) [] [] (byte 0x16 ∷ []) [] []
     -- H: A without its last byte: none yet; with that byte, 16, behind it A is taken, at place 0.
-    ∷ goesOn (map byte (take 15 caseA)) [] (byte 0x16 ∷ []) (at 0 caseA ∷ [])
+    ∷ goesOn (map byte (take 15 caseA)) [] (take 15 caseA) (byte 0x16 ∷ []) (at 0 caseA ∷ []) []
     -- I: A with checksum B4, then A: the second only.
-    ∷ line (map byte (caseI ++ caseA)) (at 16 caseA ∷ [])
+    ∷ line (map byte (caseI ++ caseA)) (at 16 caseA ∷ []) []
     ∷ []
 
 -- What a line comes to by computation, as it stands and with a silence behind it.
-abbrev LineComputes : List Symbol → List Found → Type 0
-LineComputes symbols frames = (scan 0 0 symbols .frames ≡ frames) × (scan 0 0 (symbols ++ (silence ∷ [])) .frames ≡ frames)
+abbrev LineComputes : List Symbol → List Found → List ℕ → Type 0
+LineComputes symbols frames kept =
+    (scan 0 0 symbols .frames ≡ frames) × (scan 0 0 (symbols ++ (silence ∷ [])) .frames ≡ frames) × (scan 0 0 symbols .kept ≡ kept)
 
 -- What each row comes to by computation.
 abbrev Computes : Case → Type 0
-Computes (line symbols frames) = LineComputes symbols frames
-Computes (goesOn symbols frames behind then) = LineComputes symbols frames × LineComputes (symbols ++ behind) then
+Computes (line symbols frames kept) = LineComputes symbols frames kept
+Computes (goesOn symbols frames kept behind then rest) = LineComputes symbols frames kept × LineComputes (symbols ++ behind) then rest
 Computes (request asked bytes) = (isAllowed asked ≡ true) × (requestBytes asked ≡ bytes)
 Computes (answer bytes m forward reply after) =
     (withinRanges m forward zeroRows ≡ true)
@@ -190,13 +193,14 @@ AllCompute (c ∷ cases) = Computes c × AllCompute cases
 
 computed : AllCompute table
 unfolding scan readingBy before begins broken bytesBefore recognised recognisedBody recognisedEnd isAll exactlyOne checksumOf total lengthOf fieldOf dataOf unmasked masked summed frameOf frameFor addressOf controlOf isGood lowBytes hasShortForm isShort digitsAt within minutesInRange inRange contentOf isDecimal firstBadFrom firstBad allDecimal digits lowDigits packed controlCode replyTo same itemOf energyItem readings otherRows found readingInRange readingBytes rowInRange rowsInRange readingAt columnBytes columnsBytes withPart passwordAt locationOf heldAt holding.valueHeld registersWith holding.withinRanges freshMeter commandOf namesMeter addressed identifierOf itemAsked levelOf passwordOf operatorOf writtenValue authorised checksOf replyData untouched meterAfter carriedOut treated delivered requestValue addressAllowed valueConditions conditionsOf admission isAllowed identifierBytes sentData requestFrame requestBytes firstFailing isNormal isError answersFrom isAnswer errorChecks normalChecks replyValue dataJudgement judgementOf table readingOf allOf contentChecks isJudged callChecks frameChecks beforeSilence
-computed = ((refl, refl), ((refl, refl), ((refl, refl), ((refl, refl, refl), ((refl, refl), ((refl, refl), ((refl, refl, refl), ((refl, refl), ((refl, refl, refl), ((refl, refl), ((refl, refl), ((refl, refl, refl), ((refl, refl), ((refl, refl, refl), ((refl, refl), ((refl, refl), (((refl, refl), (refl, refl)), (((refl, refl), (refl, refl)), ((refl, refl), tt)))))))))))))))))))
+computed = ((refl, refl), ((refl, refl, refl), ((refl, refl, refl), ((refl, refl, refl), ((refl, refl), ((refl, refl), ((refl, refl, refl), ((refl, refl), ((refl, refl, refl), ((refl, refl), ((refl, refl), ((refl, refl, refl), ((refl, refl), ((refl, refl, refl), ((refl, refl), ((refl, refl, refl), (((refl, refl, refl), (refl, refl, refl)), (((refl, refl, refl), (refl, refl, refl)), ((refl, refl, refl), tt)))))))))))))))))))
 
--- A line: the frames listed are the certain ones, and those that every choice that keeps the rule takes; and calls of a fresh receiver
--- that heard this line have handed on their bytes.
-pub record LineCase (symbols : List Symbol) (frames : List Found) : Type 1 where
+-- A line: the frames listed are the certain ones, and those that every choice that keeps the rule takes; the bytes listed are its rest; and
+-- calls of a fresh receiver that heard this line have handed on the frames' bytes.
+pub record LineCase (symbols : List Symbol) (frames : List Found) (kept : List ℕ) : Type 1 where
   pub certain : (place : ℕ) (frame : List ℕ) → List·Memᴰ (at place frame) frames ↔ Certain symbols place frame
   pub taken : (taken : Choice) → Keeps symbols taken → (place : ℕ) (frame : List ℕ) → List·Memᴰ (at place frame) frames ↔ taken place frame
+  pub rest : RestOf symbols kept
   pub delivered : (calls : List ReceiverCall) → Calls fresh calls → heard calls ≡ symbols → deliveredBytes calls ≡ joined frames
 
 -- A request: whatever memory of at least 66 bytes is lent, these bytes are written over its front.
@@ -214,8 +218,8 @@ pub record JudgementCase (asked : Request) (bytes : List ℕ) (says : Judgement)
 
 -- What each row says.
 abbrev pub Says : Case → Type 1
-Says (line symbols frames) = LineCase symbols frames
-Says (goesOn symbols frames behind then) = LineCase symbols frames × LineCase (symbols ++ behind) then
+Says (line symbols frames kept) = LineCase symbols frames kept
+Says (goesOn symbols frames kept behind then rest) = LineCase symbols frames kept × LineCase (symbols ++ behind) then rest
 Says (request asked bytes) = RequestCase asked bytes
 Says (answer bytes m forward reply after) = AnswerCase bytes m forward reply after
 Says (judgement asked bytes says value) = JudgementCase asked bytes says value
@@ -246,10 +250,11 @@ written-over (Error b) given value m e = rw (← e)
 written-over (Refused n) given value m e = rw (← e)
 
 -- A line that computes is so.
-line-computes-says : (symbols : List Symbol) (frames : List Found) → LineComputes symbols frames → LineCase symbols frames
-line-computes-says symbols frames h =
+line-computes-says : (symbols : List Symbol) (frames : List Found) (kept : List ℕ) → LineComputes symbols frames kept → LineCase symbols frames kept
+line-computes-says symbols frames kept h =
     record {
       certain = certain;
+      rest = rw (h .2) at (scan-rest symbols);
       taken = λ taken keeps place frame. rw (h .1) at (taken-found symbols taken keeps place frame);
       delivered = λ calls called e. delivered calls called e;
     }
@@ -273,9 +278,9 @@ line-computes-says symbols frames h =
 -- A row that computes is so.
 computes-says : (c : Case) → Computes c → Says c
 unfolding built judged
-computes-says (line symbols frames) h = line-computes-says symbols frames h
-computes-says (goesOn symbols frames behind then) h =
-    (line-computes-says symbols frames (h .0), line-computes-says (symbols ++ behind) then (h .1))
+computes-says (line symbols frames kept) h = line-computes-says symbols frames kept h
+computes-says (goesOn symbols frames kept behind then rest) h =
+    (line-computes-says symbols frames kept (h .0), line-computes-says (symbols ++ behind) then rest (h .1))
 computes-says (request asked bytes) h = record { sent = λ m room. rw (le-leb 66 (length m) room, h .0, h .1) }
 computes-says (answer bytes m forward reply after) h =
     record {
