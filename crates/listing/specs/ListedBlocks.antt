@@ -7,17 +7,18 @@ use native.Mathlib.Decide.{decLt}
 use mathlib.Core.Path.{_≡_, refl, ap, sym, _∙_}
 use mathlib.Core.Logic.{_↔_, inl, inr}
 use mathlib.Core.Bool.{false}
-use mathlib.Core.List.{List, [], _∷_, _++_, map}
+use mathlib.Core.List.{List, [], _∷_, _++_, map, flatten}
 use lib.ListN.{length, take, drop, length-drop}
 use lib.Seq.{take-append-seam, length-take-le}
 use lib.Dec.{eqb}
 use borrow.Author.Tests.{ne-eqb}
 use Rattle.laws.specs.All.{AllOf}
-use Rattle.laws.specs.Memory.{over, LeftAlone}
+use Rattle.laws.specs.Memory.{over}
 use Rattle.line_terms.specs.Line.{Symbol, byte, silence, Taken, Certain}
 use Rattle.line_terms.specs.Rest.{RestOf}
 use Rattle.line_terms.specs.RestLaws.{scan-rest}
-use Rattle.line_terms.specs.Places.{joined, framesOf, Exactly}
+use Rattle.line_terms.specs.Places.{framesOf, Exactly}
+use Rattle.line_terms.specs.PlaceLaws.{joined-frames}
 use Rattle.line_terms.specs.Scan.{LineReading, scan}
 use Rattle.line_terms.specs.ScanCertain.{certain-frames}
 use Rattle.line_terms.specs.Closed.{taken-frames}
@@ -97,14 +98,16 @@ abbrev pub IsRefusal : StepListed → Type 0
 IsRefusal (Refused n) = Unit
 IsRefusal (Listed text kept) = ⊥
 
--- What a call leaves: it is refused, with 1, exactly where memory is too short, and then all is as it was; else buffer and text are what is kept
--- and what is listed, and beyond that as they were.
+-- What a call leaves: it is refused, with 1, exactly where memory is too short, and then all is as it was; else the buffer is what is kept, and
+-- both memories are the frames that it lists and their lines, and beyond that all three are as they were.
 pub record ListStepLeaves (c : ListCall) : Type 0 where
   pub refused : IsRefusal (c .answer) ↔ TooShort (c .kept + c .read) (c .buffer) (c .lentFrames) (c .lentText)
   pub number : IsRefusal (c .answer) → c .answer ≡ Refused 1
-  pub frames : IsRefusal (c .answer) → LeftAlone (c .lentFrames) (c .leftFrames)
   pub buffer : c .leftBuffer ≡ over (keptBy (c .answer) [] (c .leftBuffer)) (c .buffer)
-  pub text : c .leftText ≡ over (textBy (c .answer) (c .leftText)) (c .lentText)
+  pub listed : List (List ℕ)
+  pub says : textBy (c .answer) (c .leftText) ≡ linesOf listed
+  pub frames : c .leftFrames ≡ over (flatten listed) (c .lentFrames)
+  pub text : c .leftText ≡ over (linesOf listed) (c .lentText)
 
 -- What holds of a line that is listed in blocks.
 pub record ListsTheLine (calls : List ListCall) : Type 1 where
@@ -127,15 +130,18 @@ Answers c =
 
 -- So a call leaves what it should.
 leaves : {c : ListCall} → Answers c → ListStepLeaves c
+unfolding linesOf flatten
 leaves (declines w a b f t) =
-    record { refused = (λ r. w, λ v. rw a tt); number = λ r. a; frames = λ r. f; buffer = rw a b; text = rw a t }
+    record { refused = (λ r. w, λ v. rw a tt); number = λ r. a; buffer = rw a b; listed = []; says = rw a; frames = f; text = t }
 leaves {c} (lists w a b f t) =
     record {
       refused = (λ r. absurd (rw a at r), λ v. absurd (w v));
       number = λ r. absurd (rw a at r);
-      frames = λ r. absurd (rw a at r);
       buffer = rw (a, b, take-append-seam (readingOf c .kept) _);
-      text = rw (a, t, take-append-seam (linesOf (framesOf (readingOf c .frames))) _);
+      listed = framesOf (readingOf c .frames);
+      says = rw (a, t, take-append-seam (linesOf (framesOf (readingOf c .frames))) _);
+      frames = f ∙ ap (λ (l : List ℕ). over l (c .lentFrames)) (joined-frames (readingOf c .frames));
+      text = t;
     }
 
 -- What calls bring, turn by turn.
