@@ -1,6 +1,6 @@
 // Both ends and the line together: a request is built, heard byte by byte by a fresh receiver and handed to the meter, and the
 // reply is judged. Demand 2 of the letter, end to end, is `demand-2` in specs/Demand2.antt; demand 1, gathered, is `demand-1` in
-// specs/Demand1.antt; document 01's cases A to I are one table in specs/Cases.antt.
+// specs/Demand1.antt; document 01's cases A to I are one table in the crate `exchange_cases`.
 use energy::Rows;
 use frame::MOST_FRAME;
 use frame::refusal::NOT_ALLOWED;

@@ -2,7 +2,7 @@
 use Prim.Native.Nat.{ℕ, zero, suc, _+_, _-_, _≤_, _<_}
 use mathlib.Core.Path.{_≡_, refl, sym, ap, _∙_}
 use mathlib.Core.Bool.{Bool, true, false}
-use mathlib.Core.List.{List, [], _∷_, _++_, append-assoc}
+use mathlib.Core.List.{List, [], _∷_, _++_}
 use native.Mathlib.Nat.{not-suc-le-zero}
 use native.Mathlib.Omega.{arith}
 use lib.ListN.{length, take, drop, length-append, length-drop}
@@ -38,13 +38,6 @@ cut-next (b ∷ f) rest w =
     let more : 11 + lengthOf (b ∷ (f ++ rest)) ≡ length f = omega arith in
     let first : take (12 + lengthOf (b ∷ (f ++ rest))) (b ∷ (f ++ rest)) ≡ b ∷ f = take-at (b ∷ f) rest _ (sym size) in
     rw (first, cut-passes _ f rest more)
-
--- Bytes behind frames that stand end to end are cut apart from them.
-pub cut-append : {bytes : List ℕ} (more : List ℕ) → EndToEnd bytes → cut (bytes ++ more) ≡ cut bytes ++ cut more
-unfolding cutFrom
-cut-append more none = refl
-cut-append more (next {frame} {rest} w behind) =
-    rw (append-assoc, cut-next frame (rest ++ more) w, cut-next frame rest w, cut-append more behind)
 
 -- Bytes that a frame begins, behind which frames stand end to end.
 pub record Fronted (bytes : List ℕ) : Type 0 where

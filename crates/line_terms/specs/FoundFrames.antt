@@ -1,7 +1,6 @@
 -- What a scan finds are frames, and frames found stand end to end where their bytes are joined.
 use Prim.Native.Nat.{ℕ}
-use mathlib.Core.Path.{refl}
-use mathlib.Core.List.{List, [], _∷_, List·Memᴰ, List·Memᴰ·head, List·Memᴰ·tail}
+use mathlib.Core.List.{List, [], _∷_}
 use Rattle.frame.specs.Frame.{Frame}
 use Rattle.frame.specs.RecognitionLaws.{whole-frame}
 use Rattle.frame.specs.EndToEnd.{EndToEnd, none, next}
@@ -14,11 +13,6 @@ use Rattle.line_terms.specs.ScanLaws.{Scans, ends, covered, finds, stops
 abbrev pub AllFrames : List Found → Type 0
 AllFrames [] = Unit
 AllFrames (f ∷ fs) = Frame (f .frame) × AllFrames fs
-
--- All are frames where each member is one.
-pub each-frame : (fs : List Found) → ((f : Found) → List·Memᴰ f fs → Frame (f .frame)) → AllFrames fs
-each-frame [] w = tt
-each-frame (f ∷ fs) w = (w f (List·Memᴰ·head refl), each-frame fs (λ g m. w g (List·Memᴰ·tail m)))
 
 -- A scan finds frames.
 scans-frames : {place k : ℕ} {x : List Symbol} {r : LineReading} → Scans place k x r → AllFrames (r .frames)

@@ -1,5 +1,5 @@
 -- A scan of the line from the left, which computes: where a whole frame stands, it is found and passed over; where what is left may
--- still become a frame, the scan stops and keeps it; any other symbol is dropped. `ScanLaws` shows that it finds the certain frames.
+-- still become a frame, the scan stops and keeps it; any other symbol is dropped. `ScanCertain` shows that it finds the certain frames.
 use Prim.Native.Nat.{ℕ, zero, suc, _-_}
 use mathlib.Core.List.{List, [], _∷_}
 use mathlib.Core.Bool.{Bool, true, false}

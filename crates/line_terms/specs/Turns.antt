@@ -2,7 +2,7 @@
 -- what the whole line reads as.
 use Prim.Native.Nat.{ℕ}
 use mathlib.Core.Path.{_≡_, refl, sym, ap, _∙_}
-use mathlib.Core.List.{List, [], _∷_, _++_, map, append-nil, append-assoc}
+use mathlib.Core.List.{List, [], _++_, map, append-nil, append-assoc}
 use Rattle.line_terms.specs.Line.{Symbol, byte}
 use Rattle.line_terms.specs.Places.{framesOf}
 use Rattle.line_terms.specs.PlaceLaws.{frames-append}

@@ -1,6 +1,5 @@
 // The line in blocks, each begun with the rest of the one before.
 ghost use Prim.Native.Nat.{_≤_, _<_};
-ghost use lib.ListN.{length};
 use line_block::BlockAnswer;
 use recording::StepAnswer;
 use run_text::heard::Gathered;
