@@ -21,7 +21,8 @@ use Rattle.line_terms.specs.Scan.{LineReading, beforeSilence, before, scan}
 use Rattle.line_block.specs.Drain.{symbols, readingFrom}
 use Rattle.line_block.specs.DrainLaws.{reading-end, reading-whole, reading-neither, reading-open}
 use Rattle.line.specs.Receiver.{fresh, called}
-use Rattle.line.specs.CallLaws.{newFrames, new-after, HasReceived, fresh-received}
+use Rattle.line_terms.specs.NewFrames.{new-after}
+use Rattle.line.specs.CallLaws.{newFrames, HasReceived, fresh-received}
 use Rattle.line.specs.DeliversLaws.{Delivers, call-delivers}
 use Rattle.line.specs.declared.Receiver.{Receiver}
 use Rattle.line.specs.declared.Received.{Received}
@@ -90,7 +91,7 @@ module _ {sent left : List ℕ} {returned : Received} {r : Receiver} (shape : Wa
 
   -- The frames found after it are all new.
   next-new : newFrames (map byte (take i sent)) (byte (getD sent i 0)) ≡ scan 0 0 (map byte (take (i + 1) sent)) .frames
-  next-new = sym (rw (next, none-found shape i below) at (new-after (map byte (take i sent)) (byte (getD sent i 0))))
+  next-new = sym (rw (next, none-found shape i below) at (new-after (map byte (take i sent)) (byte (getD sent i 0) ∷ [])))
 
   -- They are delivered.
   next-delivers : {frames : List Found} → scan 0 0 (map byte (take (i + 1) sent)) .frames ≡ frames → Delivers (joined frames) (length frames) m left returned

@@ -1,7 +1,7 @@
 -- Laws of what holds of every element of a list.
 use Prim.Native.Nat.{ℕ, zero, suc}
 use mathlib.Core.Path.{_≡_, refl}
-use mathlib.Core.List.{List, [], _∷_, _++_}
+use mathlib.Core.List.{List, [], _∷_, _++_, map}
 use mathlib.Core.Bool.{Bool, true, and-eq-true-iff}
 use mathlib.Core.Logic.{_↔_, Iff·rfl}
 use lib.ListN.{take, drop, getD, set, replicate}
@@ -22,6 +22,24 @@ module _ {A : Type 0} (P : A → Type 0) where
   pub all-append : (xs ys : List A) → AllOf P xs → AllOf P ys → AllOf P (xs ++ ys)
   all-append [] ys h k = k
   all-append (x ∷ xs) ys h k = (h .0, all-append xs ys (h .1) k)
+
+  -- It holds of each element, and of those before it.
+  pub all-at : (before : List A) (x : A) (behind : List A) → AllOf P (before ++ (x ∷ behind)) → P x
+  all-at [] x behind h = h .0
+  all-at (y ∷ before) x behind h = all-at before x behind (h .1)
+
+  pub all-before : (before behind : List A) → AllOf P (before ++ behind) → AllOf P before
+  all-before [] behind h = tt
+  all-before (y ∷ before) behind h = (h .0, all-before before behind (h .1))
+
+  -- Where it makes another property hold of what an element becomes, that holds of all that they become.
+  pub all-mapped : {B : Type 0} (f : A → B) (Q : B → Type 0) → ((x : A) → P x → Q (f x)) → (xs : List A) → AllOf P xs → AllOf Q (map f xs)
+  all-mapped f Q follows [] h = tt
+  all-mapped f Q follows (x ∷ xs) h = (follows x (h .0), all-mapped f Q follows xs (h .1))
+
+  pub all-follow : (Q : A → Type 0) → ((x : A) → P x → Q x) → (xs : List A) → AllOf P xs → AllOf Q xs
+  all-follow Q follows [] h = tt
+  all-follow Q follows (x ∷ xs) h = (follows x (h .0), all-follow Q follows xs (h .1))
 
   -- It holds of as many of one element, and where one is set of which it holds.
   pub all-replicate : (n : ℕ) (x : A) → P x → AllOf P (replicate n x)

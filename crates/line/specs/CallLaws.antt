@@ -2,10 +2,8 @@
 use Prim.Native.Nat.{ℕ, _≤_, _<_}
 use native.Mathlib.Omega.{arith}
 use mathlib.Core.Path.{_≡_, refl, ap, _∙_}
-use mathlib.Core.Logic.{_⊎_, inl, inr}
 use mathlib.Core.Bool.{Bool, true, false}
 use mathlib.Core.List.{List, [], _∷_, _++_, map, append-nil, append-assoc}
-use mathlib.Core.List.{List·Memᴰ, Memᴰ·append-right, List·Memᴰ·append-cases}
 use lib.ListN.{length, drop, length-append, length-drop, length-replicate}
 use lib.Seq.{take-append-seam}
 use lib.Dec.{leb}
@@ -15,49 +13,20 @@ use Rattle.laws.specs.Test.{pick}
 use Rattle.frame.specs.Recognition.{recognised}
 use Rattle.frame.specs.RecognitionLaws.{open-most}
 use Rattle.line_verdict.specs.VerdictLaws.{within-as}
-use Rattle.line_terms.specs.Line.{Symbol, byte, Certain}
-use Rattle.line_terms.specs.Places.{Found, Rising, joined}
-use Rattle.line_terms.specs.PlaceLaws.{joined-append, once}
+use Rattle.line_terms.specs.Line.{Symbol, byte}
+use Rattle.line_terms.specs.Places.{Found, joined}
+use Rattle.line_terms.specs.PlaceLaws.{joined-append}
 use Rattle.line_terms.specs.Scan.{scan}
-use Rattle.line_terms.specs.ScanLaws.{scan-rising, scan-kept-open, place-joined, place-count, place-kept, one-more}
-use Rattle.line_terms.specs.ScanCertain.{found-certain, certain-found}
+use Rattle.line_terms.specs.NewFrames as new
+use Rattle.line_terms.specs.ScanLaws.{scan-kept-open, place-joined, place-count, place-kept, one-more}
 use Rattle.line.specs.Receiver.{fresh, keptBytes, withinRange, refused, readingWith, keeping, delivered, called}
 use Rattle.line.specs.declared.Receiver.{Receiver}
 use Rattle.line.specs.declared.Received.{Received}
 use Rattle.line.specs.declared.Answer.the-variants.{Refused, Delivered}
 
--- The frames that the scan finds with one symbol more.
-unfoldable pub newFrames : List Symbol → Symbol → List Found
-newFrames x s = scan (one-more x s .place) 0 (map byte (scan 0 0 x .kept) ++ (s ∷ [])) .frames
-
-module _ (x : List Symbol) (s : Symbol) where
-  pub new-after : scan 0 0 (x ++ (s ∷ [])) .frames ≡ scan 0 0 x .frames ++ newFrames x s
-  unfolding newFrames
-  new-after = one-more x s .frames
-
-  pub new-rising : Rising (newFrames x s)
-  unfolding newFrames
-  new-rising = scan-rising _ 0 _
-
-  -- They are certain after that symbol and not before, and there are no others.
-  pub new-certain : (place : ℕ) (frame : List ℕ) → List·Memᴰ (record { place = place; frame = frame }) (newFrames x s) →
-      Certain (x ++ (s ∷ [])) place frame × (Certain x place frame → ⊥)
-  new-certain place frame m = (
-    found-certain (x ++ (s ∷ [])) place frame (rw new-after (Memᴰ·append-right (scan 0 0 x .frames) m)),
-    λ c. once (newFrames x s) (certain-found x place frame c) (rw new-after at (scan-rising 0 0 (x ++ (s ∷ [])))) m,
-  )
-
-  pub certain-new : (place : ℕ) (frame : List ℕ) → Certain (x ++ (s ∷ [])) place frame × (Certain x place frame → ⊥) →
-      List·Memᴰ (record { place = place; frame = frame }) (newFrames x s)
-  certain-new place frame c =
-      go (List·Memᴰ·append-cases (scan 0 0 x .frames) (rw new-after at (certain-found (x ++ (s ∷ [])) place frame (c .0))))
-    where
-      f : Found
-      f = record { place = place; frame = frame }
-
-      go : List·Memᴰ f (scan 0 0 x .frames) ⊎ List·Memᴰ f (newFrames x s) → List·Memᴰ f (newFrames x s)
-      go (inl m) = absurd (c .1 (found-certain x place frame m))
-      go (inr m) = m
+-- The frames that one symbol more brings.
+abbrev pub newFrames : List Symbol → Symbol → List Found
+newFrames x s = new.newFrames x (s ∷ [])
 
 -- A receiver that has heard a line keeps what the scan of the line keeps.
 pub record HasReceived (x : List Symbol) (r : Receiver) : Type 0 where
@@ -89,11 +58,11 @@ keeping-received {x} {y} {r} b h e =
 -- What it reads with one symbol more: the bytes and the number of the new frames, and what the scan keeps after that symbol.
 module _ {x : List Symbol} {r : Receiver} (s : Symbol) (h : HasReceived x r) where
   pub reads-joined : joined (readingWith r s .frames) ≡ joined (newFrames x s)
-  unfolding readingWith newFrames
+  unfolding readingWith new.newFrames
   reads-joined = rw (h .bytes) (place-joined _ _ _)
 
   reads-count : length (readingWith r s .frames) ≡ length (newFrames x s)
-  unfolding readingWith newFrames
+  unfolding readingWith new.newFrames
   reads-count = rw (h .bytes) (place-count _ _ _)
 
   reads-kept : readingWith r s .kept ≡ scan 0 0 (x ++ (s ∷ [])) .kept
@@ -150,4 +119,4 @@ after-then {x} {y} {z} a b =
     }
 
 pub after-one : {x : List Symbol} {s : Symbol} {r : Receiver} → HasReceived (x ++ (s ∷ [])) r → After x (s ∷ []) (joined (newFrames x s)) r
-after-one {x} {s} h = record { heard = h; frames = rw new-after (joined-append (scan 0 0 x .frames) (newFrames x s)) }
+after-one {x} {s} h = record { heard = h; frames = rw (new.new-after x (s ∷ [])) (joined-append (scan 0 0 x .frames) (newFrames x s)) }

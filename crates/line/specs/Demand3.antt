@@ -7,14 +7,15 @@ use mathlib.Core.List.{List, [], _∷_, _++_}
 use lib.ListN.{length, take}
 use lib.Seq.{take-append-seam}
 use Rattle.laws.specs.Memory.{outcome, over, LeftAlone}
-use Rattle.line_terms.specs.Line.{Symbol, Certain}
+use Rattle.line_terms.specs.Line.{Symbol, Certain, Newly}
 use Rattle.line_terms.specs.OneChoice.{OneChoice, one-choice}
 use Rattle.line_terms.specs.Rest.{RestOf}
 use Rattle.line_terms.specs.RestLaws.{scan-rest}
 use Rattle.line_terms.specs.Places.{joined, Exactly}
 use Rattle.line_terms.specs.Scan.{scan}
 use Rattle.line_terms.specs.ScanCertain.{certain-frames}
-use Rattle.line.specs.CallLaws.{newFrames, new-rising, new-certain, certain-new, HasReceived, received-most, fresh-received, Answers, ignores, delivers, answers, After, after-none, after-then, after-one}
+use Rattle.line_terms.specs.NewFrames.{newly-found}
+use Rattle.line.specs.CallLaws.{newFrames, HasReceived, received-most, fresh-received, Answers, ignores, delivers, answers, After, after-none, after-then, after-one}
 use Rattle.line.specs.Receiver.{fresh, keptBytes, called}
 use Rattle.line.specs.declared.Receiver.{Receiver}
 use Rattle.line.specs.declared.Received.{Received}
@@ -58,10 +59,6 @@ abbrev pub deliveredBytes : List ReceiverCall → List ℕ
 deliveredBytes [] = []
 deliveredBytes (c ∷ cs) = deliveredBy (c .returned .answer) (c .left) ++ deliveredBytes cs
 
--- Certain after a symbol and not before it.
-abbrev pub Newly : List Symbol → Symbol → ℕ → List ℕ → Type 1
-Newly line s place frame = Certain (line ++ (s ∷ [])) place frame × (Certain line place frame → ⊥)
-
 -- The answer is a refusal.
 abbrev pub IsRefusal : Answer → Type 0
 IsRefusal (Refused n) = Unit
@@ -76,7 +73,7 @@ pub record Ignored (r : Receiver) (c : ReceiverCall) : Type 0 where
 -- Any other call gives the numbers of bytes and frames of the frames that became certain with its symbol; they stand end to end at the front
 -- of the memory lent, which is as it was beyond them.
 pub record Counted (line : List Symbol) (c : ReceiverCall) : Type 1 where
-  pub new : Exactly (Newly line (c .symbol))
+  pub new : Exactly (Newly line (c .symbol ∷ []))
   pub answer : c .returned .answer ≡ Delivered (length (joined (new .frames))) (length (new .frames))
   pub memory : c .left ≡ over (joined (new .frames)) (c .lent)
 
@@ -117,16 +114,8 @@ call-right {line} {c = c} (delivers l a e m) =
     record {
       refused = (λ w. absurd (rw a at w), λ h. absurd (omega arith));
       short = λ h. absurd (omega arith);
-      enough = λ h. record { new = new; answer = a; memory = m };
+      enough = λ h. record { new = newly-found line (c .symbol ∷ []); answer = a; memory = m };
     }
-  where
-    new : Exactly (Newly line (c .symbol))
-    new =
-        record {
-          frames = newFrames line (c .symbol);
-          rising = new-rising line (c .symbol);
-          exact = λ place frame. (new-certain line (c .symbol) place frame, certain-new line (c .symbol) place frame);
-        }
 
 -- After a call, and after a list of calls, the receiver has heard what they heard, and what was found with it was handed on.
 call-after : {line : List Symbol} {r : Receiver} {c : ReceiverCall} → HasReceived line r → AnswersOf line r c →

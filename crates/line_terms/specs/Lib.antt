@@ -11,5 +11,6 @@ pub mod FramesFew
 pub mod FoundFrames
 pub mod TakenLaws
 pub mod ScanCertain
+pub mod NewFrames
 pub mod Closed
 pub mod RestLaws

@@ -48,3 +48,7 @@ Taken line place frame = (taken : Choice) → Keeps line taken → taken place f
 abbrev pub Certain : List Symbol → ℕ → List ℕ → Type 1
 Certain line place frame =
     (more : List Symbol) → AllBytes more → (taken : Choice) → Keeps (line ++ more) taken → taken place frame
+
+-- Certain after more symbols and not before them.
+abbrev pub Newly : List Symbol → List Symbol → ℕ → List ℕ → Type 1
+Newly line more place frame = Certain (line ++ more) place frame × (Certain line place frame → ⊥)

@@ -25,7 +25,7 @@ pub record ReadsAs (x y : List Symbol) (frames : List (List ℕ)) (kept : List �
   pub found : framesOf (scan 0 0 (x ++ y) .frames) ≡ framesOf (scan 0 0 x .frames) ++ frames
   pub keeps : scan 0 0 (x ++ y) .kept ≡ kept
 
-brings-reads : (x : List Symbol) {kept next : List ℕ} {y : List Symbol} {frames : List (List ℕ)} → kept ≡ scan 0 0 x .kept →
+pub brings-reads : (x : List Symbol) {kept next : List ℕ} {y : List Symbol} {frames : List (List ℕ)} → kept ≡ scan 0 0 x .kept →
     Brings kept y frames next → ReadsAs x y frames next
 brings-reads x {y = y} e b =
     let m : More x y = more x y in

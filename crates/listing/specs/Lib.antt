@@ -1,5 +1,4 @@
 pub mod Text
-pub mod Examples
 pub mod DigitLaws
 pub mod TextLaws
 pub mod Lines
@@ -7,3 +6,4 @@ pub mod LinesLaws
 pub mod Step
 pub mod StepLaws
 pub mod ListedBlocks
+pub mod Examples

@@ -1,35 +1,37 @@
 -- A line listed in blocks, cut anywhere: one theorem over every list of steps from an empty buffer. In all they write exactly the lines of the
--- frames certain after the line that they brought, in rising place. A step that read nothing is at the end of the input, and the end is a
--- silence.
+-- frames certain after the line that they bring, in rising place, and each step the lines of those that became certain with it. A step that
+-- read nothing is at the end of the input, and the end is a silence.
 use Prim.Native.Nat.{ℕ, _+_, _≤_}
 use native.Mathlib.Omega.{arith}
 use native.Mathlib.Decide.{decLt}
-use mathlib.Core.Path.{_≡_, refl, ap, sym, _∙_}
+use mathlib.Core.Path.{_≡_, refl, ap, sym, subst, _∙_}
 use mathlib.Core.Logic.{_↔_, inl, inr}
 use mathlib.Core.Bool.{false}
-use mathlib.Core.List.{List, [], _∷_, _++_, map, flatten}
+use mathlib.Core.List.{List, [], _∷_, _++_, map, map-append}
 use lib.ListN.{length, take, drop, length-drop}
 use lib.Seq.{take-append-seam, length-take-le}
 use lib.Dec.{eqb}
 use borrow.Author.Tests.{ne-eqb}
 use Rattle.laws.specs.All.{AllOf}
-use Rattle.laws.specs.Memory.{over}
-use Rattle.line_terms.specs.Line.{Symbol, byte, silence, Taken, Certain}
+use Rattle.laws.specs.AllLaws.{all-at, all-follow, all-mapped}
+use Rattle.laws.specs.Memory.{over, LeftAlone}
+use Rattle.line_terms.specs.Line.{Symbol, byte, silence, Taken, Certain, Newly}
 use Rattle.line_terms.specs.Rest.{RestOf}
-use Rattle.line_terms.specs.RestLaws.{scan-rest}
-use Rattle.line_terms.specs.Places.{framesOf, Exactly}
-use Rattle.line_terms.specs.PlaceLaws.{joined-frames}
+use Rattle.line_terms.specs.Places.{joined, framesOf, Exactly}
+use Rattle.line_terms.specs.PlaceLaws.{joined-same}
 use Rattle.line_terms.specs.Scan.{LineReading, scan}
 use Rattle.line_terms.specs.ScanCertain.{certain-frames}
 use Rattle.line_terms.specs.Closed.{taken-frames}
-use Rattle.line_terms.specs.Turns.{Brings, Turns, none, turn, turns-from-nothing}
 use Rattle.line_block.specs.Drain.{symbols}
+use Rattle.line_block.specs.BlockLaws.{rest-most}
 use Rattle.recording.specs.Step.{stepReading}
-use Rattle.recording.specs.Blocks.{newBytes, block-brings}
+use Rattle.recording.specs.Chain.{Says, refuses, keeps, IsRefusal, BufferCall, keptAfter, Chain, heard}
+use Rattle.recording.specs.ChainLaws.{readingOf, Answers, refused, reads, foundBy, foundIn, chain-finds, chain-keeps, NewlyRead, chain-each}
+use Rattle.recording.specs.Blocks.{newBytes, step-reading}
 use Rattle.listing.specs.Lines.{linesOf}
 use Rattle.listing.specs.LinesLaws.{lines-append}
-use Rattle.listing.specs.Step.{isEnd, listingOutcome, stepListed}
-use Rattle.listing.specs.StepLaws.{TooShort, Listing, declines, lists, listing-of}
+use Rattle.listing.specs.Step.{isEnd, TooShort, listingOutcome, stepListed}
+use Rattle.listing.specs.StepLaws.{ListStepping, declines, lists, list-stepping}
 use Rattle.listing.specs.declared.step.StepListed.{StepListed}
 use Rattle.listing.specs.declared.step.StepListed.the-variants.{Refused, Listed}
 
@@ -46,42 +48,34 @@ pub record ListCall : Type 0 where
   pub leftFrames : List ℕ
   pub leftText : List ℕ
 
--- What is kept after a call: as many bytes as it says, from the front of the buffer as it left it; what was kept before where it is refused.
-abbrev pub keptBy : StepListed → List ℕ → List ℕ → List ℕ
-keptBy (Refused n) front left = front
-keptBy (Listed text kept) front left = take kept left
-
--- What is kept after a list of calls.
-abbrev pub keptAfter : List ℕ → List ListCall → List ℕ
-keptAfter front [] = front
-keptAfter front (c ∷ cs) = keptAfter (keptBy (c .answer) front (c .leftBuffer)) cs
-
--- A call is told how many bytes are kept, its buffer begins with them, and it answers what its `ensures` says.
-pub record IsListStep (front : List ℕ) (c : ListCall) : Type 0 where
-  pub told : c .kept ≡ length front
-  pub begins : take (length front) (c .buffer) ≡ front
-  pub call : listingOutcome (c .answer) (c .leftBuffer) (c .leftFrames) (c .leftText) ≡
-      stepListed (c .kept) (c .read) (c .buffer) (c .lentFrames) (c .lentText)
-
--- Calls one after the other, each with what the last one kept.
-abbrev pub ListSteps : List ℕ → List ListCall → Type 0
-ListSteps front [] = Unit
-ListSteps front (c ∷ cs) = IsListStep front c × ListSteps (keptBy (c .answer) front (c .leftBuffer)) cs
+-- It answers what its `ensures` says.
+abbrev pub IsListStep : ListCall → Type 0
+IsListStep c =
+    listingOutcome (c .answer) (c .leftBuffer) (c .leftFrames) (c .leftText) ≡ stepListed (c .kept) (c .read) (c .buffer) (c .lentFrames) (c .lentText)
 
 -- What a read brings: its bytes; and where it brought none, the input has ended, and the end is a silence.
 abbrev pub brought : List ℕ → List Symbol
 brought [] = silence ∷ []
 brought (b ∷ bs) = map byte (b ∷ bs)
 
--- What an answer adds to the line: what the call brought, and nothing where it is refused.
-abbrev pub heardBy : StepListed → List Symbol → List Symbol
-heardBy (Refused n) symbols = []
-heardBy (Listed text kept) symbols = symbols
+abbrev pub broughtBy : ListCall → List Symbol
+broughtBy c = brought (newBytes (c .kept) (c .read) (c .buffer))
 
--- The line: what the calls not refused brought.
-abbrev pub heard : List ListCall → List Symbol
-heard [] = []
-heard (c ∷ cs) = heardBy (c .answer) (brought (newBytes (c .kept) (c .read) (c .buffer))) ++ heard cs
+-- What an answer says of the bytes kept.
+abbrev pub saysOf : StepListed → Says
+saysOf (Refused n) = refuses
+saysOf (Listed text kept) = keeps kept
+
+-- A step of the listing as a call over the line's buffer.
+abbrev pub onBuffer : ListCall → BufferCall
+onBuffer c = record { kept = c .kept; buffer = c .buffer; brought = broughtBy c; says = saysOf (c .answer); left = c .leftBuffer }
+
+-- The line that steps bring, and what is kept after them.
+abbrev pub lineOf : List ListCall → List Symbol
+lineOf calls = heard (map onBuffer calls)
+
+abbrev pub keptOf : List ListCall → List ℕ
+keptOf calls = keptAfter [] (map onBuffer calls)
 
 -- What an answer lists: as many bytes as it says, from the front of the text memory; nothing if refused.
 abbrev pub textBy : StepListed → List ℕ → List ℕ
@@ -93,69 +87,61 @@ abbrev pub listedText : List ListCall → List ℕ
 listedText [] = []
 listedText (c ∷ cs) = textBy (c .answer) (c .leftText) ++ listedText cs
 
--- The answer is a refusal.
-abbrev pub IsRefusal : StepListed → Type 0
-IsRefusal (Refused n) = Unit
-IsRefusal (Listed text kept) = ⊥
+-- The memory lent to a call is too short for the bytes that it was told of.
+abbrev pub IsShort : ListCall → Type 0
+IsShort c = TooShort (c .kept + c .read) (c .buffer) (c .lentFrames) (c .lentText)
 
--- What a call leaves: it is refused, with 1, exactly where memory is too short, and then all is as it was; else the buffer is what is kept, and
--- both memories are the frames that it lists and their lines, and beyond that all three are as they were.
-pub record ListStepLeaves (c : ListCall) : Type 0 where
-  pub refused : IsRefusal (c .answer) ↔ TooShort (c .kept + c .read) (c .buffer) (c .lentFrames) (c .lentText)
-  pub number : IsRefusal (c .answer) → c .answer ≡ Refused 1
-  pub buffer : c .leftBuffer ≡ over (keptBy (c .answer) [] (c .leftBuffer)) (c .buffer)
-  pub listed : List (List ℕ)
-  pub says : textBy (c .answer) (c .leftText) ≡ linesOf listed
-  pub frames : c .leftFrames ≡ over (flatten listed) (c .lentFrames)
-  pub text : c .leftText ≡ over (linesOf listed) (c .lentText)
+-- Exactly then it is refused, with 1, and nothing changes.
+pub record ListRefusal (c : ListCall) : Type 0 where
+  pub refused : IsRefusal (saysOf (c .answer)) ↔ IsShort c
+  pub number : IsShort c → c .answer ≡ Refused 1
+  pub buffer : IsShort c → LeftAlone (c .buffer) (c .leftBuffer)
+  pub frames : IsShort c → LeftAlone (c .lentFrames) (c .leftFrames)
+  pub text : IsShort c → LeftAlone (c .lentText) (c .leftText)
 
--- What holds of a line that is listed in blocks.
+-- Any other step, by the line before it: the frames that became certain with what it brings stand end to end over the front of the one memory,
+-- their lines over the front of the other, and are counted; the rest of the line, at most 211 bytes, stands over the front of the buffer, and is
+-- counted.
+pub record StepLists (line : List Symbol) (c : ListCall) : Type 1 where
+  pub new : Exactly (Newly line (broughtBy c))
+  pub kept : List ℕ
+  pub rest : RestOf (line ++ broughtBy c) kept
+  pub most : length kept ≤ 211
+  pub answer : c .answer ≡ Listed (length (linesOf (framesOf (new .frames)))) (length kept)
+  pub buffer : c .leftBuffer ≡ over kept (c .buffer)
+  pub frames : c .leftFrames ≡ over (joined (new .frames)) (c .lentFrames)
+  pub text : c .leftText ≡ over (linesOf (framesOf (new .frames))) (c .lentText)
+
+-- What holds of a list of steps.
 pub record ListsTheLine (calls : List ListCall) : Type 1 where
-  -- each call of the list
-  pub each : AllOf ListStepLeaves calls
+  -- each step of the list
+  pub refusals : AllOf ListRefusal calls
+  pub each : (earlier : List ListCall) (c : ListCall) (later : List ListCall) → calls ≡ earlier ++ (c ∷ later) → (IsShort c → ⊥) →
+      StepLists (lineOf earlier) c
   -- the frames certain after the line, and that the whole text is their lines
-  pub certain : Exactly (Certain (heard calls))
+  pub certain : Exactly (Certain (lineOf calls))
   pub text : listedText calls ≡ linesOf (framesOf (certain .frames))
   -- what is kept are the bytes from the first place on that may still become a frame and that no taken frame covers
-  pub kept : RestOf (heard calls) (keptAfter [] calls)
+  pub kept : RestOf (lineOf calls) (keptOf calls)
 
--- What the bytes that a call was told of read as.
-abbrev readingOf : ListCall → LineReading
-readingOf c = stepReading (c .kept) (c .read) (isEnd (c .read)) (c .buffer)
+-- What a step comes to.
+abbrev Comes : ListCall → Type 0
+Comes c = ListStepping (c .kept) (c .read) (c .buffer) (c .lentFrames) (c .lentText) (c .answer) (c .leftBuffer) (c .leftFrames) (c .leftText)
 
--- What a call comes to.
-abbrev Answers : ListCall → Type 0
-Answers c =
-    Listing (c .kept) (c .read) (c .buffer) (c .lentFrames) (c .lentText) (c .answer) (c .leftBuffer) (c .leftFrames) (c .leftText)
-
--- So a call leaves what it should.
-leaves : {c : ListCall} → Answers c → ListStepLeaves c
-unfolding linesOf flatten
-leaves (declines w a b f t) =
-    record { refused = (λ r. w, λ v. rw a tt); number = λ r. a; buffer = rw a b; listed = []; says = rw a; frames = f; text = t }
-leaves {c} (lists w a b f t) =
-    record {
-      refused = (λ r. absurd (rw a at r), λ v. absurd (w v));
-      number = λ r. absurd (rw a at r);
-      buffer = rw (a, b, take-append-seam (readingOf c .kept) _);
-      listed = framesOf (readingOf c .frames);
-      says = rw (a, t, take-append-seam (linesOf (framesOf (readingOf c .frames))) _);
-      frames = f ∙ ap (λ (l : List ℕ). over l (c .lentFrames)) (joined-frames (readingOf c .frames));
-      text = t;
-    }
-
--- What calls bring, turn by turn.
-record CallsTurn (front : List ℕ) (calls : List ListCall) : Type 0 where
-  frames : List (List ℕ)
-  turns : Turns front (heard calls) frames (keptAfter front calls)
-  text : listedText calls ≡ linesOf frames
-  each : AllOf ListStepLeaves calls
-
--- A call that is refused brings nothing.
-call-declines : {front : List ℕ} {c : ListCall} {cs : List ListCall} → ListStepLeaves c → c .answer ≡ Refused 1 →
-    CallsTurn (keptBy (c .answer) front (c .leftBuffer)) cs → CallsTurn front (c ∷ cs)
-call-declines w a t =
-    record { frames = t .frames; turns = rw a (rw a at (t .turns)); text = rw a (t .text); each = (w, t .each) }
+-- The refusal of any step.
+pub list-refusal : (c : ListCall) → IsListStep c → ListRefusal c
+list-refusal c h = go (list-stepping h)
+  where
+    go : Comes c → ListRefusal c
+    go (declines w a b f t) = record { refused = (λ r. w, λ v. rw a tt); number = λ v. a; buffer = λ v. b; frames = λ v. f; text = λ v. t }
+    go (lists w a b f t) =
+        record {
+          refused = (λ r. absurd (rw a at r), λ v. absurd (w v));
+          number = λ v. absurd (w v);
+          buffer = λ v. absurd (w v);
+          frames = λ v. absurd (w v);
+          text = λ v. absurd (w v);
+        }
 
 -- Bytes that are read, as symbols: with a silence behind them exactly where there are none.
 brought-symbols : (read : ℕ) (bytes : List ℕ) → length bytes ≡ read → symbols bytes (isEnd read) ≡ brought bytes
@@ -165,68 +151,99 @@ brought-symbols read (b ∷ bs) e =
     let some : eqb read 0 ≡ false = ne-eqb read 0 (λ z. omega arith) in
     rw some
 
--- A call that is not refused brings what its bytes read as.
-module _ {front : List ℕ} {c : ListCall} (h : IsListStep front c) (enough : c .kept + c .read ≤ length (c .buffer))
-    (a : c .answer ≡ Listed (length (linesOf (framesOf (readingOf c .frames)))) (length (readingOf c .kept)))
-    (b : c .leftBuffer ≡ over (readingOf c .kept) (c .buffer)) (t : c .leftText ≡ over (linesOf (framesOf (readingOf c .frames))) (c .lentText)) where
-  call-keeps : readingOf c .kept ≡ keptBy (c .answer) front (c .leftBuffer)
-  call-keeps = rw (a, b, take-append-seam (readingOf c .kept) _)
-
-  call-text : textBy (c .answer) (c .leftText) ≡ linesOf (framesOf (readingOf c .frames))
-  call-text = rw (a, t, take-append-seam (linesOf (framesOf (readingOf c .frames))) _)
+-- What the bytes of a step that is not refused read as: those kept, and then what it brings.
+module _ (c : ListCall) (enough : IsShort c → ⊥) where
+  within : c .kept + c .read ≤ length (c .buffer)
+  within = elim (decLt (length (c .buffer)) (c .kept + c .read)) [ yes l ↦ absurd (enough (inr (inl l))) | no l ↦ omega arith ]
 
   new-length : length (newBytes (c .kept) (c .read) (c .buffer)) ≡ c .read
-  new-length = length-take-le (c .read) (drop (c .kept) (c .buffer)) (omega (arith, length-drop (c .kept) (c .buffer)))
+  new-length = length-take-le (c .read) (drop (c .kept) (c .buffer)) (omega (arith, within, length-drop (c .kept) (c .buffer)))
 
-  call-brings : Brings front (heardBy (c .answer) (brought (newBytes (c .kept) (c .read) (c .buffer)))) (framesOf (readingOf c .frames))
-      (keptBy (c .answer) front (c .leftBuffer))
-  call-brings =
-      rw (← call-keeps, a, ← brought-symbols (c .read) (newBytes (c .kept) (c .read) (c .buffer)) new-length, h .told)
-      (block-brings front (c .read) (isEnd (c .read)) (c .buffer) (h .begins))
+  same-reading : stepReading (c .kept) (c .read) (isEnd (c .read)) (c .buffer) ≡ readingOf (onBuffer c)
+  same-reading =
+      step-reading (c .kept) (c .read) (isEnd (c .read)) (c .buffer)
+      ∙ ap (λ (l : List Symbol). scan 0 0 (map byte (take (c .kept) (c .buffer)) ++ l)) (brought-symbols (c .read) (newBytes (c .kept) (c .read) (c .buffer)) new-length)
 
-  call-lists : {cs : List ListCall} → ListStepLeaves c → CallsTurn (keptBy (c .answer) front (c .leftBuffer)) cs → CallsTurn front (c ∷ cs)
-  call-lists w more =
-      record {
-        frames = framesOf (readingOf c .frames) ++ more .frames;
-        turns = turn call-brings (more .turns);
-        text = rw (call-text, more .text, lines-append);
-        each = (w, more .each);
-      }
-
-calls-turn : (front : List ℕ) (calls : List ListCall) → ListSteps front calls → CallsTurn front calls
-unfolding linesOf
-calls-turn front [] h = record { frames = []; turns = none; text = refl; each = tt }
-calls-turn front (c ∷ cs) h = go (listing-of (h .0 .call)) (calls-turn (keptBy (c .answer) front (c .leftBuffer)) cs (h .1))
+-- So a step is refused, or says and leaves what its reading keeps.
+step-answers : (c : ListCall) → IsListStep c → Answers (onBuffer c)
+step-answers c h = go (list-stepping h)
   where
-    enough : (TooShort (c .kept + c .read) (c .buffer) (c .lentFrames) (c .lentText) → ⊥) → c .kept + c .read ≤ length (c .buffer)
-    enough w = elim (decLt (length (c .buffer)) (c .kept + c .read)) [ yes l ↦ absurd (w (inr (inl l))) | no l ↦ omega arith ]
+    go : Comes c → Answers (onBuffer c)
+    go (declines w a b f t) = refused (ap saysOf a)
+    go (lists w a b f t) =
+        reads (ap saysOf a ∙ ap (λ (r : LineReading). keeps (length (r .kept))) (same-reading c w))
+        (b ∙ ap (λ (r : LineReading). over (r .kept) (c .buffer)) (same-reading c w))
 
-    go : Answers c → CallsTurn (keptBy (c .answer) front (c .leftBuffer)) cs → CallsTurn front (c ∷ cs)
-    go (declines w a b f t) more = call-declines (leaves (declines w a b f t)) a more
-    go (lists w a b f t) more = call-lists (h .0) (enough w) a b t (leaves (lists w a b f t)) more
+steps-answer : (calls : List ListCall) → AllOf IsListStep calls → AllOf Answers (map onBuffer calls)
+steps-answer calls h = all-mapped IsListStep onBuffer Answers step-answers calls h
+
+-- A step that is not refused, by what it finds behind the line before it.
+step-lists : (line : List Symbol) (c : ListCall) → IsListStep c → (IsShort c → ⊥) → NewlyRead line (onBuffer c) → StepLists line c
+step-lists line c h enough n = go (list-stepping h)
+  where
+    found : framesOf (stepReading (c .kept) (c .read) (isEnd (c .read)) (c .buffer) .frames) ≡ framesOf (n .new .frames)
+    found = ap (λ (r : LineReading). framesOf (r .frames)) (same-reading c enough) ∙ sym (n .same)
+
+    go : Comes c → StepLists line c
+    go (declines w a b f t) = absurd (enough w)
+    go (lists w a b f t) =
+        record {
+          new = n .new;
+          kept = stepReading (c .kept) (c .read) (isEnd (c .read)) (c .buffer) .kept;
+          rest = rw (same-reading c enough) (n .rest);
+          most = rest-most (take (c .kept + c .read) (c .buffer)) (isEnd (c .read));
+          answer = a ∙ (λ i. Listed (length (linesOf (found i))) (length (stepReading (c .kept) (c .read) (isEnd (c .read)) (c .buffer) .kept)));
+          buffer = b;
+          frames = f ∙ ap (λ (l : List ℕ). over l (c .lentFrames)) (joined-same _ _ found);
+          text = t ∙ ap (λ (l : List (List ℕ)). over (linesOf l) (c .lentText)) found;
+        }
+
+-- What a step lists is the lines of what it finds.
+step-text : (c : ListCall) → IsListStep c → textBy (c .answer) (c .leftText) ≡ linesOf (foundBy (saysOf (c .answer)) (framesOf (readingOf (onBuffer c) .frames)))
+unfolding linesOf
+step-text c h = go (list-stepping h)
+  where
+    go : Comes c → textBy (c .answer) (c .leftText) ≡ linesOf (foundBy (saysOf (c .answer)) (framesOf (readingOf (onBuffer c) .frames)))
+    go (declines w a b f t) = rw a
+    go (lists w a b f t) =
+        rw (a, t, take-append-seam (linesOf (framesOf (stepReading (c .kept) (c .read) (isEnd (c .read)) (c .buffer) .frames))) _)
+        (ap (λ (r : LineReading). linesOf (framesOf (r .frames))) (same-reading c w))
+
+all-text : (calls : List ListCall) → AllOf IsListStep calls → listedText calls ≡ linesOf (foundIn (map onBuffer calls))
+unfolding linesOf
+all-text [] h = refl
+all-text (c ∷ cs) h = rw (step-text c (h .0), all-text cs (h .1), lines-append)
 
 -- The whole text is the lines of what the whole line reads as.
-lines-of : (calls : List ListCall) → ListSteps [] calls → listedText calls ≡ linesOf (framesOf (scan 0 0 (heard calls) .frames))
-lines-of calls h =
-    let t : CallsTurn [] calls = calls-turn [] calls h in
-    t .text ∙ ap linesOf (sym (turns-from-nothing (t .turns) .0))
+pub lines-of : (calls : List ListCall) → AllOf IsListStep calls → Chain [] (map onBuffer calls) →
+    listedText calls ≡ linesOf (framesOf (scan 0 0 (lineOf calls) .frames))
+lines-of calls s h = all-text calls s ∙ ap linesOf (sym (chain-finds (map onBuffer calls) h (steps-answer calls s)))
 
 -- Of every list of steps from an empty buffer.
-pub blocks-listed : (calls : List ListCall) → ListSteps [] calls → ListsTheLine calls
-blocks-listed calls h =
-    let t : CallsTurn [] calls = calls-turn [] calls h in
+pub blocks-listed : (calls : List ListCall) → AllOf IsListStep calls → Chain [] (map onBuffer calls) → ListsTheLine calls
+blocks-listed calls s h =
     record {
-      each = t .each;
-      certain = certain-frames (heard calls);
-      text = lines-of calls h;
-      kept = rw (← turns-from-nothing (t .turns) .1) (scan-rest (heard calls));
+      refusals = all-follow IsListStep ListRefusal list-refusal calls s;
+      each = each;
+      certain = certain-frames (lineOf calls);
+      text = lines-of calls s h;
+      kept = chain-keeps (map onBuffer calls) h (steps-answer calls s);
     }
+  where
+    each : (earlier : List ListCall) (c : ListCall) (later : List ListCall) → calls ≡ earlier ++ (c ∷ later) → (IsShort c → ⊥) →
+        StepLists (lineOf earlier) c
+    each earlier c later e enough =
+        let split : map onBuffer calls ≡ map onBuffer earlier ++ (onBuffer c ∷ map onBuffer later) = ap (map onBuffer) e ∙ map-append onBuffer earlier (c ∷ later) in
+        let is : IsListStep c = all-at IsListStep earlier c later (subst (AllOf IsListStep) e s) in
+        step-lists (lineOf earlier) c is enough
+        (chain-each (map onBuffer earlier) (onBuffer c) (map onBuffer later) (subst (Chain []) split h)
+        (subst (AllOf Answers) split (steps-answer calls s)) (λ r. enough (list-refusal c is .refused .0 r)))
 
--- What holds where the calls brought this input and then its end: the whole text is the lines of the frames taken in the input.
+-- What holds where the steps bring this input and then its end: the whole text is the lines of the frames taken in the input.
 pub record ListsTheInput (input : List ℕ) (calls : List ListCall) : Type 1 where
   pub taken : Exactly (Taken (map byte input))
   pub text : listedText calls ≡ linesOf (framesOf (taken .frames))
 
-pub input-listed : (input : List ℕ) (calls : List ListCall) → ListSteps [] calls → heard calls ≡ map byte input ++ (silence ∷ []) →
-    ListsTheInput input calls
-input-listed input calls h e = record { taken = taken-frames (map byte input); text = rw e at (lines-of calls h) }
+pub input-listed : (input : List ℕ) (calls : List ListCall) → AllOf IsListStep calls → Chain [] (map onBuffer calls) →
+    lineOf calls ≡ map byte input ++ (silence ∷ []) → ListsTheInput input calls
+input-listed input calls s h e = record { taken = taken-frames (map byte input); text = rw e at (lines-of calls s h) }

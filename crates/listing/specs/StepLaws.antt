@@ -25,7 +25,7 @@ use Rattle.recording.specs.StepLaws.{Stepping, ignores, delivers, stepping}
 use Rattle.recording.specs.declared.StepAnswer.the-variants as recorded
 use Rattle.listing.specs.Lines.{linesOf}
 use Rattle.listing.specs.LinesLaws.{lines-twice}
-use Rattle.listing.specs.Step.{isEnd, ListingOutcome, listingOutcome, readingListed, stepListed}
+use Rattle.listing.specs.Step.{isEnd, TooShort, ListingOutcome, listingOutcome, readingListed, stepListed}
 use Rattle.listing.specs.declared.step.StepListed.{StepListed}
 use Rattle.listing.specs.declared.step.StepListed.the-variants.{Refused, Listed}
 
@@ -56,11 +56,7 @@ module _ (block : List ℕ) (ended : Bool) where
       rw block-cut at (lines-twice block-end-to-end) in
       omega (arith, block-few block ended)
 
--- The memory is too short: the text's is not twice as long as the bytes of the step, or the buffer or the frames' shorter than they.
-abbrev pub TooShort : ℕ → List ℕ → List ℕ → List ℕ → Type 0
-TooShort n buffer frames text = (length text < 2 * n) ⊎ ((length buffer < n) ⊎ (length frames < n))
-
--- Then a step is refused.
+-- Where memory is too short a step is refused.
 pub list-short : (kept read : ℕ) (buffer frames text : List ℕ) → TooShort (kept + read) buffer frames text →
     listingOutcome (Refused 1) buffer frames text ≡ stepListed kept read buffer frames text
 unfolding stepListed
@@ -132,21 +128,21 @@ module _ (kept read : ℕ) (buffer frames text : List ℕ) {buffer₁ frames₁ 
         rw (le-leb _ _ fits, le-leb _ _ (has-read .here), le-leb _ _ (has-read .room)) (cc (has-read .front, has-read .memory, has-read .keeps))
 
 -- What a step comes to: refused with 1 where memory is too short, and all as before; else what its bytes read as is listed and kept.
-pub data Listing (kept read : ℕ) (buffer frames text : List ℕ) (answer : StepListed) (buffer₁ frames₁ text₁ : List ℕ) : Type 0 where
+pub data ListStepping (kept read : ℕ) (buffer frames text : List ℕ) (answer : StepListed) (buffer₁ frames₁ text₁ : List ℕ) : Type 0 where
   declines : TooShort (kept + read) buffer frames text → answer ≡ Refused 1 → buffer₁ ≡ buffer → frames₁ ≡ frames → text₁ ≡ text →
-      Listing kept read buffer frames text answer buffer₁ frames₁ text₁
+      ListStepping kept read buffer frames text answer buffer₁ frames₁ text₁
   lists : (TooShort (kept + read) buffer frames text → ⊥) →
       answer ≡ Listed (length (linesOf (framesOf (stepReading kept read (isEnd read) buffer .frames)))) (length (stepReading kept read (isEnd read) buffer .kept)) →
       buffer₁ ≡ over (stepReading kept read (isEnd read) buffer .kept) buffer →
       frames₁ ≡ over (joined (stepReading kept read (isEnd read) buffer .frames)) frames →
       text₁ ≡ over (linesOf (framesOf (stepReading kept read (isEnd read) buffer .frames))) text →
-      Listing kept read buffer frames text answer buffer₁ frames₁ text₁
+      ListStepping kept read buffer frames text answer buffer₁ frames₁ text₁
 
-pub listing-of : {kept read : ℕ} {buffer frames text buffer₁ frames₁ text₁ : List ℕ} {answer : StepListed} →
+pub list-stepping : {kept read : ℕ} {buffer frames text buffer₁ frames₁ text₁ : List ℕ} {answer : StepListed} →
     listingOutcome answer buffer₁ frames₁ text₁ ≡ stepListed kept read buffer frames text →
-    Listing kept read buffer frames text answer buffer₁ frames₁ text₁
+    ListStepping kept read buffer frames text answer buffer₁ frames₁ text₁
 unfolding stepListed readingListed
-listing-of {kept} {read} {buffer} {frames} {text} {buffer₁} {frames₁} {text₁} {answer} =
+list-stepping {kept} {read} {buffer} {frames} {text} {buffer₁} {frames₁} {text₁} {answer} =
     pick-cases P (leb (2 * (kept + read)) (length text))
     (λ t.
     pick-cases P (leb (kept + read) (length buffer))
@@ -158,7 +154,7 @@ listing-of {kept} {read} {buffer} {frames} {text} {buffer₁} {frames₁} {text�
     (λ t. bad (inl (leb-false _ _ t)))
   where
     P : ListingOutcome → Type 0
-    P o = listingOutcome answer buffer₁ frames₁ text₁ ≡ o → Listing kept read buffer frames text answer buffer₁ frames₁ text₁
+    P o = listingOutcome answer buffer₁ frames₁ text₁ ≡ o → ListStepping kept read buffer frames text answer buffer₁ frames₁ text₁
 
     enough : 2 * (kept + read) ≤ length text → kept + read ≤ length buffer → kept + read ≤ length frames → TooShort (kept + read) buffer frames text → ⊥
     enough t b f (inl h) = omega arith
@@ -182,12 +178,12 @@ pub record ListedWithin (text : List ℕ) (used left : ℕ) : Type 0 where
 
 pub listed-within : (kept read : ℕ) (buffer frames text : List ℕ) {buffer₁ frames₁ text₁ : List ℕ} {used left : ℕ} →
     listingOutcome (Listed used left) buffer₁ frames₁ text₁ ≡ stepListed kept read buffer frames text → ListedWithin text₁ used left
-listed-within kept read buffer frames text {buffer₁} {frames₁} {text₁} {used} {left} e = go (listing-of e)
+listed-within kept read buffer frames text {buffer₁} {frames₁} {text₁} {used} {left} e = go (list-stepping e)
   where
     lines : List ℕ
     lines = linesOf (framesOf (stepReading kept read (isEnd read) buffer .frames))
 
-    go : Listing kept read buffer frames text (Listed used left) buffer₁ frames₁ text₁ → ListedWithin text₁ used left
+    go : ListStepping kept read buffer frames text (Listed used left) buffer₁ frames₁ text₁ → ListedWithin text₁ used left
     go (declines w a b f t) = let z : _≡_ {A = ℕ} 0 1 = cc in absurd (omega arith)
     go (lists w a b f t) =
         let long : used ≡ length lines = cc in

@@ -1,28 +1,30 @@
 -- A line read in blocks, cut anywhere: one theorem over every list of steps from an empty buffer. In all they deliver exactly the frames
--- certain after the line that they brought, and keep its rest. The end of a line is a silence, so that what is certain behind it is what is
--- taken in the line (`ended-taken`).
-use Prim.Native.Nat.{ℕ, _+_, _<_}
+-- certain after the line that they bring, each step those that became certain with it, and keep the rest of the line. The end of a line is a
+-- silence, so that what is certain behind it is what is taken in the line (`ended-taken`).
+use Prim.Native.Nat.{ℕ, _+_, _≤_, _<_}
 use native.Mathlib.Omega.{arith}
-use mathlib.Core.Path.{_≡_, refl, ap, sym, _∙_}
+use mathlib.Core.Path.{_≡_, refl, ap, sym, subst, _∙_}
 use mathlib.Core.Logic.{_↔_, _⊎_, ⊎-elim}
 use mathlib.Core.Bool.{Bool, true, false}
 use mathlib.Core.List.{List, [], _∷_, _++_, map, map-append, append-assoc, flatten}
 use lib.ListN.{length, take, drop, length-append}
 use lib.Seq.{take-append-seam, take-add}
 use Rattle.laws.specs.All.{AllOf}
-use Rattle.laws.specs.Memory.{over}
-use Rattle.line_terms.specs.Line.{Symbol, byte, Certain}
+use Rattle.laws.specs.AllLaws.{all-at, all-follow, all-mapped}
+use Rattle.laws.specs.Memory.{over, LeftAlone}
+use Rattle.line_terms.specs.Line.{Symbol, byte, Certain, Newly}
 use Rattle.line_terms.specs.Rest.{RestOf}
-use Rattle.line_terms.specs.RestLaws.{scan-rest}
 use Rattle.line_terms.specs.Places.{joined, framesOf, Exactly}
-use Rattle.line_terms.specs.PlaceLaws.{joined-frames, count-frames}
+use Rattle.line_terms.specs.PlaceLaws.{joined-frames, count-frames, joined-same, count-same}
 use Rattle.line_terms.specs.Scan.{LineReading, scan}
 use Rattle.line_terms.specs.ScanCertain.{certain-frames}
-use Rattle.line_terms.specs.Turns.{Brings, Turns, none, turn, turns-from-nothing}
 use Rattle.line_block.specs.Drain.{symbols, readingFrom}
 use Rattle.line_block.specs.Block.{blockReading}
+use Rattle.line_block.specs.BlockLaws.{rest-most}
 use Rattle.recording.specs.Step.{stepOutcome, stepReading, stepRead}
 use Rattle.recording.specs.StepLaws.{Stepping, ignores, delivers, stepping}
+use Rattle.recording.specs.Chain.{Says, refuses, keeps, IsRefusal, BufferCall, keptAfter, Chain, heard}
+use Rattle.recording.specs.ChainLaws.{readingOf, Answers, refused, reads, foundBy, foundIn, chain-finds, chain-keeps, NewlyRead, chain-each}
 use Rattle.recording.specs.declared.StepAnswer.{StepAnswer}
 use Rattle.recording.specs.declared.StepAnswer.the-variants.{Refused, Delivered}
 
@@ -38,40 +40,33 @@ pub record StepCall : Type 0 where
   pub leftBuffer : List ℕ
   pub left : List ℕ
 
--- What is kept after a call: as many bytes as it says, from the front of the buffer as it left it; what was kept before where it is refused.
-abbrev pub keptBy : StepAnswer → List ℕ → List ℕ → List ℕ
-keptBy (Refused n) front left = front
-keptBy (Delivered bytes frames kept) front left = take kept left
-
--- What is kept after a list of calls.
-abbrev pub keptAfter : List ℕ → List StepCall → List ℕ
-keptAfter front [] = front
-keptAfter front (c ∷ cs) = keptAfter (keptBy (c .answer) front (c .leftBuffer)) cs
-
--- A call is told how many bytes are kept, its buffer begins with them, and it answers what its `ensures` says.
-pub record IsStep (front : List ℕ) (c : StepCall) : Type 0 where
-  pub told : c .kept ≡ length front
-  pub begins : take (length front) (c .buffer) ≡ front
-  pub call : stepOutcome (c .answer) (c .leftBuffer) (c .left) ≡ stepRead (c .kept) (c .read) (c .ended) (c .buffer) (c .lent)
-
--- Calls one after the other, each with what the last one kept.
-abbrev pub Steps : List ℕ → List StepCall → Type 0
-Steps front [] = Unit
-Steps front (c ∷ cs) = IsStep front c × Steps (keptBy (c .answer) front (c .leftBuffer)) cs
+-- It answers what its `ensures` says.
+abbrev pub IsStep : StepCall → Type 0
+IsStep c = stepOutcome (c .answer) (c .leftBuffer) (c .left) ≡ stepRead (c .kept) (c .read) (c .ended) (c .buffer) (c .lent)
 
 -- The bytes that stand behind those kept, as many as were read.
 abbrev pub newBytes : ℕ → ℕ → List ℕ → List ℕ
 newBytes kept read buffer = take read (drop kept buffer)
 
--- What an answer adds to the line: the symbols that the call brought, and nothing where it is refused.
-abbrev pub heardBy : StepAnswer → List Symbol → List Symbol
-heardBy (Refused n) brought = []
-heardBy (Delivered bytes frames kept) brought = brought
+-- What a call brings: its new bytes, and a silence behind them where the line has ended.
+abbrev pub broughtBy : StepCall → List Symbol
+broughtBy c = symbols (newBytes (c .kept) (c .read) (c .buffer)) (c .ended)
 
--- The line: what the calls not refused brought, their new bytes and a silence behind them where it has ended.
-abbrev pub heard : List StepCall → List Symbol
-heard [] = []
-heard (c ∷ cs) = heardBy (c .answer) (symbols (newBytes (c .kept) (c .read) (c .buffer)) (c .ended)) ++ heard cs
+-- What an answer says of the bytes kept.
+abbrev pub saysOf : StepAnswer → Says
+saysOf (Refused n) = refuses
+saysOf (Delivered bytes frames kept) = keeps kept
+
+-- A step as a call over the line's buffer.
+abbrev pub onBuffer : StepCall → BufferCall
+onBuffer c = record { kept = c .kept; buffer = c .buffer; brought = broughtBy c; says = saysOf (c .answer); left = c .leftBuffer }
+
+-- The line that steps bring, and what is kept after them.
+abbrev pub lineOf : List StepCall → List Symbol
+lineOf calls = heard (map onBuffer calls)
+
+abbrev pub keptOf : List StepCall → List ℕ
+keptOf calls = keptAfter [] (map onBuffer calls)
 
 -- What an answer delivers: as many bytes as it says, from the front of the memory; and the number of frames that it says.
 abbrev pub deliveredBy : StepAnswer → List ℕ → List ℕ
@@ -90,48 +85,56 @@ abbrev pub countedFrames : List StepCall → ℕ
 countedFrames [] = 0
 countedFrames (c ∷ cs) = countedBy (c .answer) + countedFrames cs
 
--- The answer is a refusal.
-abbrev pub IsRefusal : StepAnswer → Type 0
-IsRefusal (Refused n) = Unit
-IsRefusal (Delivered bytes frames kept) = ⊥
+-- The buffer, or the memory, is shorter than the bytes that the step was told of.
+abbrev pub TooShort : StepCall → Type 0
+TooShort c = (length (c .buffer) < c .kept + c .read) ⊎ (length (c .lent) < c .kept + c .read)
 
--- What a call leaves: it is refused, with 1, exactly where the buffer or the memory is shorter than the bytes it was told of, and then both
--- are as they were; else both are what is kept and what is delivered, and beyond that as they were.
-pub record StepLeaves (c : StepCall) : Type 0 where
-  pub refused : IsRefusal (c .answer) ↔ ((length (c .buffer) < c .kept + c .read) ⊎ (length (c .lent) < c .kept + c .read))
-  pub number : IsRefusal (c .answer) → c .answer ≡ Refused 1
-  pub buffer : c .leftBuffer ≡ over (keptBy (c .answer) [] (c .leftBuffer)) (c .buffer)
-  pub memory : c .left ≡ over (deliveredBy (c .answer) (c .left)) (c .lent)
+-- Exactly then it is refused, with 1, and nothing changes.
+pub record StepRefusal (c : StepCall) : Type 0 where
+  pub refused : IsRefusal (saysOf (c .answer)) ↔ TooShort c
+  pub number : TooShort c → c .answer ≡ Refused 1
+  pub buffer : TooShort c → LeftAlone (c .buffer) (c .leftBuffer)
+  pub memory : TooShort c → LeftAlone (c .lent) (c .left)
 
--- What holds of a line that is read in blocks.
+-- Any other step, by the line before it: the frames that became certain with what it brings stand end to end over the front of the memory, and
+-- are counted; the rest of the line, at most 211 bytes, stands over the front of the buffer, and is counted.
+pub record StepReads (line : List Symbol) (c : StepCall) : Type 1 where
+  pub new : Exactly (Newly line (broughtBy c))
+  pub kept : List ℕ
+  pub rest : RestOf (line ++ broughtBy c) kept
+  pub most : length kept ≤ 211
+  pub answer : c .answer ≡ Delivered (length (joined (new .frames))) (length (new .frames)) (length kept)
+  pub buffer : c .leftBuffer ≡ over kept (c .buffer)
+  pub memory : c .left ≡ over (joined (new .frames)) (c .lent)
+
+-- What holds of a list of steps.
 pub record ReadsTheLine (calls : List StepCall) : Type 1 where
-  -- each call of the list
-  pub each : AllOf StepLeaves calls
+  -- each step of the list
+  pub refusals : AllOf StepRefusal calls
+  pub each : (earlier : List StepCall) (c : StepCall) (later : List StepCall) → calls ≡ earlier ++ (c ∷ later) → (TooShort c → ⊥) →
+      StepReads (lineOf earlier) c
   -- the frames certain after the line, and that all that was delivered, joined, and all that was counted is theirs
-  pub certain : Exactly (Certain (heard calls))
+  pub certain : Exactly (Certain (lineOf calls))
   pub delivered : deliveredBytes calls ≡ joined (certain .frames)
   pub counted : countedFrames calls ≡ length (certain .frames)
   -- what is kept are the bytes from the first place on that may still become a frame and that no taken frame covers
-  pub kept : RestOf (heard calls) (keptAfter [] calls)
+  pub kept : RestOf (lineOf calls) (keptOf calls)
 
--- What the bytes that a call was told of read as.
-abbrev pub readingOf : StepCall → LineReading
-readingOf c = stepReading (c .kept) (c .read) (c .ended) (c .buffer)
+-- What a step comes to.
+abbrev Comes : StepCall → Type 0
+Comes c = Stepping (c .kept) (c .read) (c .ended) (c .buffer) (c .lent) (c .answer) (c .leftBuffer) (c .left)
 
--- What a call comes to.
-abbrev Answers : StepCall → Type 0
-Answers c = Stepping (c .kept) (c .read) (c .ended) (c .buffer) (c .lent) (c .answer) (c .leftBuffer) (c .left)
-
--- So a call leaves what it should.
-leaves : {c : StepCall} → Answers c → StepLeaves c
-leaves (ignores w a b m) = record { refused = (λ r. w, λ v. rw a tt); number = λ r. a; buffer = rw a b; memory = rw a m }
-leaves {c} (delivers b m a f o) =
-    record {
-      refused = (λ r. absurd (rw a at r), ⊎-elim (λ l. absurd (omega arith)) (λ l. absurd (omega arith)));
-      number = λ r. absurd (rw a at r);
-      buffer = rw (a, f, take-append-seam (readingOf c .kept) _);
-      memory = rw (a, o, take-append-seam (joined (readingOf c .frames)) _);
-    }
+-- The refusal of any step.
+pub step-refusal : (c : StepCall) → IsStep c → StepRefusal c
+step-refusal c h = go (stepping h)
+  where
+    go : Comes c → StepRefusal c
+    go (ignores w a b m) = record { refused = (λ r. w, λ v. rw a tt); number = λ v. a; buffer = λ v. b; memory = λ v. m }
+    go (delivers b m a f o) =
+        record { refused = (λ r. absurd (rw a at r), λ v. absurd (none v)); number = λ v. absurd (none v); buffer = λ v. absurd (none v); memory = λ v. absurd (none v) }
+      where
+        none : TooShort c → ⊥
+        none = ⊎-elim (λ l. omega arith) (λ l. omega arith)
 
 -- The symbols of bytes joined.
 symbols-append : (a b : List ℕ) (ended : Bool) → symbols (a ++ b) ended ≡ map byte a ++ symbols b ended
@@ -139,87 +142,103 @@ unfolding symbols
 symbols-append a b true = rw (map-append, append-assoc)
 symbols-append a b false = rw map-append
 
--- A block as symbols: the bytes kept, and then those that are read behind them.
-module _ (front : List ℕ) (read : ℕ) (ended : Bool) (buffer : List ℕ) (begins : take (length front) buffer ≡ front) where
-  block-symbols : symbols (take (length front + read) buffer) ended ≡ map byte front ++ symbols (newBytes (length front) read buffer) ended
-  block-symbols =
-      let split : take (length front + read) buffer ≡ front ++ newBytes (length front) read buffer =
-      take-add (length front) read buffer ∙ ap (λ (l : List ℕ). l ++ newBytes (length front) read buffer) begins in
-      rw (split, symbols-append)
+-- What the bytes of a step read as: those kept, and then the symbols that it brings.
+pub step-reading : (kept read : ℕ) (ended : Bool) (buffer : List ℕ) →
+    stepReading kept read ended buffer ≡ scan 0 0 (map byte (take kept buffer) ++ symbols (newBytes kept read buffer) ended)
+unfolding blockReading readingFrom
+step-reading kept read ended buffer =
+    ap (λ (l : List ℕ). scan 0 0 (symbols l ended)) (take-add kept read buffer)
+    ∙ ap (scan 0 0) (symbols-append (take kept buffer) (newBytes kept read buffer) ended)
 
-  -- So these symbols bring what the block reads as.
-  pub block-brings : Brings front (symbols (newBytes (length front) read buffer) ended)
-      (framesOf (stepReading (length front) read ended buffer .frames)) (stepReading (length front) read ended buffer .kept)
-  unfolding blockReading readingFrom
-  block-brings = record { found = ap (λ (l : List Symbol). framesOf (scan 0 0 l .frames)) block-symbols; keeps = ap (λ (l : List Symbol). scan 0 0 l .kept) block-symbols }
+same-reading : (c : StepCall) → stepReading (c .kept) (c .read) (c .ended) (c .buffer) ≡ readingOf (onBuffer c)
+same-reading c = step-reading (c .kept) (c .read) (c .ended) (c .buffer)
+
+-- So a step is refused, or says and leaves what its reading keeps.
+step-answers : (c : StepCall) → IsStep c → Answers (onBuffer c)
+step-answers c h = go (stepping h)
+  where
+    go : Comes c → Answers (onBuffer c)
+    go (ignores w a b m) = refused (ap saysOf a)
+    go (delivers w v a b m) =
+        reads (ap saysOf a ∙ ap (λ (r : LineReading). keeps (length (r .kept))) (same-reading c))
+        (b ∙ ap (λ (r : LineReading). over (r .kept) (c .buffer)) (same-reading c))
+
+steps-answer : (calls : List StepCall) → AllOf IsStep calls → AllOf Answers (map onBuffer calls)
+steps-answer calls h = all-mapped IsStep onBuffer Answers step-answers calls h
+
+-- A step that is not refused, by what it finds behind the line before it.
+step-reads : (line : List Symbol) (c : StepCall) → IsStep c → (TooShort c → ⊥) → NewlyRead line (onBuffer c) → StepReads line c
+step-reads line c h enough n = go (stepping h)
+  where
+    found : framesOf (stepReading (c .kept) (c .read) (c .ended) (c .buffer) .frames) ≡ framesOf (n .new .frames)
+    found = ap (λ (r : LineReading). framesOf (r .frames)) (same-reading c) ∙ sym (n .same)
+
+    bytes : joined (stepReading (c .kept) (c .read) (c .ended) (c .buffer) .frames) ≡ joined (n .new .frames)
+    bytes = joined-same _ _ found
+
+    count : length (stepReading (c .kept) (c .read) (c .ended) (c .buffer) .frames) ≡ length (n .new .frames)
+    count = count-same _ _ found
+
+    go : Comes c → StepReads line c
+    go (ignores w a b m) = absurd (enough w)
+    go (delivers w v a b m) =
+        record {
+          new = n .new;
+          kept = stepReading (c .kept) (c .read) (c .ended) (c .buffer) .kept;
+          rest = rw (same-reading c) (n .rest);
+          most = rest-most (take (c .kept + c .read) (c .buffer)) (c .ended);
+          answer = a ∙ (λ i. Delivered (length (bytes i)) (count i) (length (stepReading (c .kept) (c .read) (c .ended) (c .buffer) .kept)));
+          buffer = b;
+          memory = m ∙ ap (λ (l : List ℕ). over l (c .lent)) bytes;
+        }
+
+-- What a step delivers and counts is what it finds.
+step-finds : (c : StepCall) → IsStep c → let fs : List (List ℕ) = foundBy (saysOf (c .answer)) (framesOf (readingOf (onBuffer c) .frames)) in
+    (deliveredBy (c .answer) (c .left) ≡ flatten fs) × (countedBy (c .answer) ≡ length fs)
+unfolding flatten
+step-finds c h = go (stepping h)
+  where
+    go : Comes c → let fs : List (List ℕ) = foundBy (saysOf (c .answer)) (framesOf (readingOf (onBuffer c) .frames)) in
+        (deliveredBy (c .answer) (c .left) ≡ flatten fs) × (countedBy (c .answer) ≡ length fs)
+    go (ignores w a b m) = rw a (refl, refl)
+    go (delivers w v a b m) =
+        rw (a, m, take-append-seam (joined (stepReading (c .kept) (c .read) (c .ended) (c .buffer) .frames)) _, ← same-reading c)
+        (joined-frames (stepReading (c .kept) (c .read) (c .ended) (c .buffer) .frames), count-frames (stepReading (c .kept) (c .read) (c .ended) (c .buffer) .frames))
 
 flatten-append : (a b : List (List ℕ)) → flatten (a ++ b) ≡ flatten a ++ flatten b
 unfolding flatten
 flatten-append [] b = refl
 flatten-append (l ∷ a) b = rw (flatten-append a b, append-assoc)
 
--- What calls bring, turn by turn.
-record CallsTurn (front : List ℕ) (calls : List StepCall) : Type 0 where
-  frames : List (List ℕ)
-  turns : Turns front (heard calls) frames (keptAfter front calls)
-  bytes : deliveredBytes calls ≡ flatten frames
-  count : countedFrames calls ≡ length frames
-  each : AllOf StepLeaves calls
-
--- A call that is refused brings nothing.
-call-ignores : {front : List ℕ} {c : StepCall} {cs : List StepCall} → StepLeaves c → c .answer ≡ Refused 1 →
-    CallsTurn (keptBy (c .answer) front (c .leftBuffer)) cs → CallsTurn front (c ∷ cs)
-call-ignores w a t =
-    record {
-      frames = t .frames;
-      turns = rw a (rw a at (t .turns));
-      bytes = rw a (t .bytes);
-      count = rw a (omega (arith, t .count));
-      each = (w, t .each);
-    }
-
--- A call that is not refused brings what its block reads as.
-module _ {front : List ℕ} {c : StepCall} (h : IsStep front c)
-    (a : c .answer ≡ Delivered (length (joined (readingOf c .frames))) (length (readingOf c .frames)) (length (readingOf c .kept)))
-    (b : c .leftBuffer ≡ over (readingOf c .kept) (c .buffer)) (m : c .left ≡ over (joined (readingOf c .frames)) (c .lent)) where
-  call-keeps : readingOf c .kept ≡ keptBy (c .answer) front (c .leftBuffer)
-  call-keeps = rw (a, b, take-append-seam (readingOf c .kept) _)
-
-  call-bytes : deliveredBy (c .answer) (c .left) ≡ flatten (framesOf (readingOf c .frames))
-  call-bytes = rw (a, m, take-append-seam (joined (readingOf c .frames)) _) (joined-frames (readingOf c .frames))
-
-  call-brings : Brings front (heardBy (c .answer) (symbols (newBytes (c .kept) (c .read) (c .buffer)) (c .ended)))
-      (framesOf (readingOf c .frames)) (keptBy (c .answer) front (c .leftBuffer))
-  call-brings = rw (← call-keeps, a, h .told) (block-brings front (c .read) (c .ended) (c .buffer) (h .begins))
-
-  call-delivers : {cs : List StepCall} → StepLeaves c → CallsTurn (keptBy (c .answer) front (c .leftBuffer)) cs → CallsTurn front (c ∷ cs)
-  call-delivers w t =
-      record {
-        frames = framesOf (readingOf c .frames) ++ t .frames;
-        turns = turn call-brings (t .turns);
-        bytes = rw (call-bytes, t .bytes, flatten-append);
-        count = rw (a, length-append, count-frames (readingOf c .frames), t .count);
-        each = (w, t .each);
-      }
-
-calls-turn : (front : List ℕ) (calls : List StepCall) → Steps front calls → CallsTurn front calls
+all-find : (calls : List StepCall) → AllOf IsStep calls →
+    (deliveredBytes calls ≡ flatten (foundIn (map onBuffer calls))) × (countedFrames calls ≡ length (foundIn (map onBuffer calls)))
 unfolding flatten
-calls-turn front [] h = record { frames = []; turns = none; bytes = refl; count = refl; each = tt }
-calls-turn front (c ∷ cs) h = go (stepping (h .0 .call)) (calls-turn (keptBy (c .answer) front (c .leftBuffer)) cs (h .1))
-  where
-    go : Answers c → CallsTurn (keptBy (c .answer) front (c .leftBuffer)) cs → CallsTurn front (c ∷ cs)
-    go (ignores w a b m) t = call-ignores (leaves (ignores w a b m)) a t
-    go (delivers w v a b m) t = call-delivers (h .0) a b m (leaves (delivers w v a b m)) t
+all-find [] h = (refl, refl)
+all-find (c ∷ cs) h =
+    let one = step-finds c (h .0) in
+    let rest = all-find cs (h .1) in
+    (rw (one .0, rest .0, flatten-append), rw (one .1, rest .1, length-append))
 
 -- Of every list of steps from an empty buffer.
-pub blocks-due : (calls : List StepCall) → Steps [] calls → ReadsTheLine calls
-blocks-due calls h =
-    let t : CallsTurn [] calls = calls-turn [] calls h in
-    let r = turns-from-nothing (t .turns) in
+pub blocks-due : (calls : List StepCall) → AllOf IsStep calls → Chain [] (map onBuffer calls) → ReadsTheLine calls
+blocks-due calls s h =
+    let a : AllOf Answers (map onBuffer calls) = steps-answer calls s in
+    let finds : framesOf (scan 0 0 (lineOf calls) .frames) ≡ foundIn (map onBuffer calls) = chain-finds (map onBuffer calls) h a in
+    let all = all-find calls s in
     record {
-      each = t .each;
-      certain = certain-frames (heard calls);
-      delivered = t .bytes ∙ ap flatten (sym (r .0)) ∙ sym (joined-frames (scan 0 0 (heard calls) .frames));
-      counted = t .count ∙ ap length (sym (r .0)) ∙ sym (count-frames (scan 0 0 (heard calls) .frames));
-      kept = rw (← r .1) (scan-rest (heard calls));
+      refusals = all-follow IsStep StepRefusal step-refusal calls s;
+      each = each;
+      certain = certain-frames (lineOf calls);
+      delivered = all .0 ∙ ap flatten (sym finds) ∙ sym (joined-frames (scan 0 0 (lineOf calls) .frames));
+      counted = all .1 ∙ ap length (sym finds) ∙ sym (count-frames (scan 0 0 (lineOf calls) .frames));
+      kept = chain-keeps (map onBuffer calls) h a;
     }
+  where
+    each : (earlier : List StepCall) (c : StepCall) (later : List StepCall) → calls ≡ earlier ++ (c ∷ later) → (TooShort c → ⊥) →
+        StepReads (lineOf earlier) c
+    each earlier c later e enough =
+        let split : map onBuffer calls ≡ map onBuffer earlier ++ (onBuffer c ∷ map onBuffer later) = ap (map onBuffer) e ∙ map-append onBuffer earlier (c ∷ later) in
+        let is : IsStep c = all-at IsStep earlier c later (subst (AllOf IsStep) e s) in
+        step-reads (lineOf earlier) c is enough
+        (chain-each (map onBuffer earlier) (onBuffer c) (map onBuffer later) (subst (Chain []) split h)
+        (subst (AllOf Answers) split (steps-answer calls s)) (λ r. enough (step-refusal c is .refused .0 r)))
