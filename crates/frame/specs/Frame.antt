@@ -1,8 +1,9 @@
 -- Document 01, "A frame": what bytes are a frame, its parts, the checksum and the masking of data bytes. Lists hold bytes.
-use Prim.Native.Nat.{ℕ, _+_, _-_, _%_, _≤_}
+use Prim.Native.Nat.{ℕ, _+_, _-_, _%_, _≤_, _<_}
 use mathlib.Core.Path.{_≡_}
 use mathlib.Core.List.{List, [], _∷_, _++_, map}
 use lib.ListN.{length, getD, take, drop}
+use Rattle.laws.specs.Memory.{Bytes}
 
 -- The sum of the bytes.
 unfoldable pub total : List ℕ → ℕ
@@ -41,6 +42,13 @@ pub record Frame (bytes : List ℕ) : Type 0 where
   pub six : length address ≡ 6
   pub most : length field ≤ 200
   pub made : bytes ≡ frameOf address control field
+
+-- Document 01's proper beginning of a frame: some bytes more make it a frame. No bytes are one.
+pub record ProperBeginning (x : List ℕ) : Type 0 where
+  pub more : List ℕ
+  pub some : 0 < length more
+  pub bytes : Bytes more
+  pub whole : Frame (x ++ more)
 
 -- How many bytes the longest frame has.
 abbrev pub mostFrame : ℕ

@@ -10,7 +10,7 @@ use lib.ListN.{length, getD, take, drop, replicate, length-append, length-drop, 
 use lib.Seq.{take-all, getD-append-add, getD-drop}
 use lib.Dec.{leb}
 use borrow.Author.Tests.{leb-true, leb-false, eqb-true, eq-eqb, ne-eqb}
-use Rattle.frame.specs.Frame.{Frame, frameOf, summed, checksumOf, lengthOf, masked, frameFor}
+use Rattle.frame.specs.Frame.{Frame, ProperBeginning, frameOf, summed, checksumOf, lengthOf, masked, frameFor}
 use Rattle.laws.specs.AllLaws.{all-drop, all-append, all-replicate}
 use Rattle.laws.specs.Memory.{IsByte, Bytes}
 use Rattle.frame.specs.TakenApartLaws.{summed-length, length-part}
@@ -56,13 +56,6 @@ frame-alone {f} w =
 pub frame-whole : (f more : List ℕ) → Frame f → recognised (f ++ more) ≡ Whole (length f)
 frame-whole f more w = whole-stays f more (length f) (frame-alone w)
 
--- Bytes that complete a beginning to a frame.
-pub record Completion (x : List ℕ) : Type 0 where
-  pub more : List ℕ
-  pub some : 0 < length more
-  pub bytes : Bytes more
-  pub whole : Frame (x ++ more)
-
 -- Bytes that begin with a frame of length n.
 record Begins (x : List ℕ) (n : ℕ) : Type 0 where
   within : n ≤ length x
@@ -71,11 +64,11 @@ record Begins (x : List ℕ) (n : ℕ) : Type 0 where
 -- What each answer means.
 abbrev Meaning : List ℕ → Recognised → Type 0
 Meaning x (Whole n) = Begins x n
-Meaning x Open = Completion x
+Meaning x Open = ProperBeginning x
 Meaning x Neither = Unit
 
 -- A beginning padded up to the last data byte is completed by the checksum and 16.
-padded : (x pad : List ℕ) → Bytes pad → Headed (x ++ pad) → length (x ++ pad) ≡ 10 + lengthOf (x ++ pad) → Completion x
+padded : (x pad : List ℕ) → Bytes pad → Headed (x ++ pad) → length (x ++ pad) ≡ 10 + lengthOf (x ++ pad) → ProperBeginning x
 unfolding checksumOf
 padded x pad b h e =
     record {
@@ -86,7 +79,7 @@ padded x pad b h e =
     }
 
 -- A beginning that ends among the data bytes: padded by zeros.
-field-completes : (x : List ℕ) → Headed x → length x ≤ 10 + lengthOf x → Completion x
+field-completes : (x : List ℕ) → Headed x → length x ≤ 10 + lengthOf x → ProperBeginning x
 field-completes x h l =
     let missing : ℕ = 10 + lengthOf x - length x in
     let pad : List ℕ = replicate missing 0 in
@@ -105,7 +98,7 @@ rest-at x t i same = go (leb (length x) i) refl
     go false e = List·getD-append x _ 0 i (leb-false _ _ e) ∙ same (leb-false _ _ e)
 
 -- A beginning that ends before the data length: padded by the head of a frame with no data.
-head-completes : (x : List ℕ) → length x ≤ 9 → (0 < length x → getD x 0 0 ≡ 0x68) → (7 < length x → getD x 7 0 ≡ 0x68) → Completion x
+head-completes : (x : List ℕ) → length x ≤ 9 → (0 < length x → getD x 0 0 ≡ 0x68) → (7 < length x → getD x 7 0 ≡ 0x68) → ProperBeginning x
 unfolding lengthOf
 head-completes x l first eighth =
     let head : List ℕ = 0x68 ∷ 0 ∷ 0 ∷ 0 ∷ 0 ∷ 0 ∷ 0 ∷ 0x68 ∷ 0 ∷ 0 ∷ [] in
@@ -122,7 +115,7 @@ module _ (x : List ℕ) (h : Headed x) (l : 10 + lengthOf x < length x)
   sum-closes : Frame (take (10 + lengthOf x + 1) x ++ (0x16 ∷ []))
   sum-closes = rw (take-next x (10 + lengthOf x) l, c, append-assoc) (front-closes x h (omega arith))
 
-  end-completes : length x ≤ 10 + lengthOf x + 1 → Completion x
+  end-completes : length x ≤ 10 + lengthOf x + 1 → ProperBeginning x
   end-completes e =
       record { more = 0x16 ∷ []; some = omega arith; bytes = (omega arith, tt); whole = rw (take-all _ x e) at sum-closes }
 
@@ -143,7 +136,7 @@ means x =
     at (10 + lengthOf x + 1) _ _ (end-completes x w h (eqb-true _ _ e)) (λ l d.
     whole-begins x w h (eqb-true _ _ e) l (eqb-true _ _ d))))))
   where
-    at : (i : ℕ) (t : Bool) (next : Recognised) → (length x ≤ i → Completion x) → (i < length x → t ≡ true → Meaning x next) →
+    at : (i : ℕ) (t : Bool) (next : Recognised) → (length x ≤ i → ProperBeginning x) → (i < length x → t ≡ true → Meaning x next) →
         Meaning x (stage x i t next)
     at i t next short passed = stage-cases (Meaning x) x i t next short (λ h e. tt) passed
 
@@ -158,7 +151,7 @@ pub whole-frame : (x : List ℕ) (n : ℕ) → recognised x ≡ Whole n → Fram
 whole-frame x n e = whole-means x n e .frame
 
 -- Open bytes are a proper beginning of some frame, and a proper beginning of any frame is open.
-pub open-completes : (x : List ℕ) → recognised x ≡ Open → Completion x
+pub open-completes : (x : List ℕ) → recognised x ≡ Open → ProperBeginning x
 open-completes x e = subst (Meaning x) e (means x)
 
 pub completes-open : (x more : List ℕ) → 0 < length more → Frame (x ++ more) → recognised x ≡ Open
@@ -174,7 +167,7 @@ completes-open x more h w = go (recognised x) refl
 -- A beginning has at most 211 bytes.
 pub open-most : (x : List ℕ) → recognised x ≡ Open → length x ≤ 211
 open-most x e =
-    let c : Completion x = open-completes x e in
+    let c : ProperBeginning x = open-completes x e in
     omega (arith, c .some, simp length-append at (frame-most (c .whole)))
 
 -- Bytes that do not start with 68 begin no frame.

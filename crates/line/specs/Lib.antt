@@ -5,3 +5,4 @@ pub mod Rescan
 pub mod RescanLaws
 pub mod CallCases
 pub mod DeliversLaws
+pub mod RefusalWords

@@ -4,7 +4,7 @@ use Prim.Native.Nat.{ℕ, _+_, _≤_, _<_}
 use mathlib.Core.Path.{_≡_}
 use mathlib.Core.List.{List, map}
 use lib.ListN.{length, drop}
-use Rattle.frame.specs.RecognitionLaws.{Completion}
+use Rattle.frame.specs.Frame.{ProperBeginning}
 use Rattle.line_terms.specs.Line.{Symbol, byte, Choice, Keeps}
 
 -- A place may still become a frame: the symbols from there on are bytes, with no silence among them, and some bytes more make them a frame.
@@ -12,7 +12,7 @@ use Rattle.line_terms.specs.Line.{Symbol, byte, Choice, Keeps}
 pub record MayBecome (line : List Symbol) (place : ℕ) : Type 0 where
   pub begun : List ℕ
   pub there : drop place line ≡ map byte begun
-  pub completes : Completion begun
+  pub completes : ProperBeginning begun
 
 -- No taken frame covers the place: what is taken at it or before it ends before it.
 abbrev pub Uncovered : Choice → ℕ → Type 0

@@ -5,14 +5,14 @@ use mathlib.Core.Path.{refl, _∙_, ap}
 use mathlib.Core.Logic.{_⊎_, inl, inr}
 use mathlib.Core.List.{List, [], _∷_, _++_, map, append-nil, map-append, List·Memᴰ, List·Memᴰ·eq-of-singleton}
 use lib.ListN.{length, take, length-append, length-take, length-drop, length-map}
-use Rattle.frame.specs.Frame.{Frame}
+use Rattle.frame.specs.Frame.{Frame, ProperBeginning}
 use Rattle.laws.specs.Memory.{Bytes}
 use Rattle.line_terms.specs.Line.{Symbol, byte, AllBytes, Stands, Choice, Keeps, Certain}
 use Rattle.line_terms.specs.Places.{Found, Exactly}
 use Rattle.line_terms.specs.Scan.{LineReading, bytesBefore, scan}
 use Rattle.line_terms.specs.OneChoice.{OneChoice, one-choice}
 use Rattle.line_terms.specs.ScanLaws.{scan-rising}
-use Rattle.frame.specs.RecognitionLaws.{Completion, open-completes, frame-least}
+use Rattle.frame.specs.RecognitionLaws.{open-completes, frame-least}
 use Rattle.line_terms.specs.TakenLaws.{Takes, Read, reads, begins-frame, begins-whole, whole-passed}
 
 -- The scan of symbols with which a line begins.
@@ -75,7 +75,7 @@ certain-found x place frame h = go (read more .passed .rest g (certain more byte
     within : place + length frame ≤ length x
     within = rw append-nil at (stands-within (x ++ []) place frame (one [] .keeps place frame .0 (certain [] tt) .0))
 
-    rest : Completion (scan 0 0 x .kept)
+    rest : ProperBeginning (scan 0 0 x .kept)
     rest = open-completes (scan 0 0 x .kept) (read [] .begun)
 
     more : List Symbol
