@@ -6,12 +6,9 @@ use native.Mathlib.Omega.{arith}
 use native.Mathlib.Decide.{decLt}
 use mathlib.Core.Path.{_≡_, refl, ap, sym, subst, _∙_}
 use mathlib.Core.Logic.{_↔_, inl, inr}
-use mathlib.Core.Bool.{false}
 use mathlib.Core.List.{List, [], _∷_, _++_, map, map-append}
 use lib.ListN.{length, take, drop, length-drop}
 use lib.Seq.{take-append-seam, length-take-le}
-use lib.Dec.{eqb}
-use borrow.Author.Tests.{ne-eqb}
 use Rattle.laws.specs.All.{AllOf}
 use Rattle.laws.specs.AllLaws.{all-at, all-follow, all-mapped}
 use Rattle.laws.specs.Memory.{over, LeftAlone}
@@ -31,7 +28,7 @@ use Rattle.recording.specs.Blocks.{newBytes, step-reading}
 use Rattle.listing.specs.Lines.{linesOf}
 use Rattle.listing.specs.LinesLaws.{lines-append}
 use Rattle.listing.specs.Step.{isEnd, TooShort, listingOutcome, stepListed}
-use Rattle.listing.specs.StepLaws.{ListStepping, declines, lists, list-stepping}
+use Rattle.listing.specs.StepLaws.{none-end, some-no-end, ListStepping, declines, lists, list-stepping}
 use Rattle.listing.specs.declared.step.StepListed.{StepListed}
 use Rattle.listing.specs.declared.step.StepListed.the-variants.{Refused, Listed}
 
@@ -145,11 +142,9 @@ list-refusal c h = go (list-stepping h)
 
 -- Bytes that are read, as symbols: with a silence behind them exactly where there are none.
 brought-symbols : (read : ℕ) (bytes : List ℕ) → length bytes ≡ read → symbols bytes (isEnd read) ≡ brought bytes
-unfolding symbols isEnd
-brought-symbols read [] e = rw (← e)
-brought-symbols read (b ∷ bs) e =
-    let some : eqb read 0 ≡ false = ne-eqb read 0 (λ z. omega arith) in
-    rw some
+unfolding symbols
+brought-symbols read [] e = rw (none-end read (sym e))
+brought-symbols read (b ∷ bs) e = rw (some-no-end read (omega arith))
 
 -- What the bytes of a step that is not refused read as: those kept, and then what it brings.
 module _ (c : ListCall) (enough : IsShort c → ⊥) where

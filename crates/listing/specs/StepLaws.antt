@@ -3,13 +3,13 @@
 use Prim.Native.Nat.{ℕ, _+_, _*_, _≤_, _<_}
 use mathlib.Core.Path.{_≡_, refl, ap, sym, _∙_}
 use mathlib.Core.Logic.{_⊎_, inl, inr}
-use mathlib.Core.Bool.{Bool}
+use mathlib.Core.Bool.{Bool, true, false}
 use mathlib.Core.List.{List, [], _∷_}
 use native.Mathlib.Omega.{arith}
 use lib.ListN.{length, take, length-append}
 use lib.Seq.{take-at, length-take-le}
 use lib.Dec.{leb}
-use borrow.Author.Tests.{le-leb, lt-leb, leb-true, leb-false}
+use borrow.Author.Tests.{le-leb, lt-leb, leb-true, leb-false, eq-eqb, ne-eqb}
 use Rattle.laws.specs.Memory.{Outcome, outcome, over}
 use Rattle.laws.specs.MemoryLaws.{over-length}
 use Rattle.laws.specs.TestLaws.{pick-cases, pick-same}
@@ -28,6 +28,15 @@ use Rattle.listing.specs.LinesLaws.{lines-twice}
 use Rattle.listing.specs.Step.{isEnd, TooShort, ListingOutcome, listingOutcome, readingListed, stepListed}
 use Rattle.listing.specs.declared.step.StepListed.{StepListed}
 use Rattle.listing.specs.declared.step.StepListed.the-variants.{Refused, Listed}
+
+-- A read that brought no bytes is at the end of the input, and one that brought some is not.
+pub none-end : (read : ℕ) → read ≡ 0 → isEnd read ≡ true
+unfolding isEnd
+none-end read e = eq-eqb read 0 e
+
+pub some-no-end : (read : ℕ) → 0 < read → isEnd read ≡ false
+unfolding isEnd
+some-no-end read h = ne-eqb read 0 (λ z. omega arith)
 
 -- Frames joined are cut into the same frames again.
 cut-joined : (fs : List Found) → AllFrames fs → cut (joined fs) ≡ framesOf fs
