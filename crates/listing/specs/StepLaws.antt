@@ -1,7 +1,7 @@
 -- Laws of a step of the listing: what its reading delivers is cut into the frames found again, what each way out comes to, and what an answer
 -- says of the step.
 use Prim.Native.Nat.{ℕ, _+_, _*_, _≤_, _<_}
-use mathlib.Core.Path.{_≡_, refl, ap, sym, _∙_}
+use mathlib.Core.Path.{_≡_, refl, ap, sym, subst, _∙_}
 use mathlib.Core.Logic.{_⊎_, inl, inr}
 use mathlib.Core.Bool.{Bool, true, false}
 use mathlib.Core.List.{List, [], _∷_}
@@ -9,7 +9,7 @@ use native.Mathlib.Omega.{arith}
 use lib.ListN.{length, take, length-append}
 use lib.Seq.{take-at, length-take-le}
 use lib.Dec.{leb}
-use borrow.Author.Tests.{le-leb, lt-leb, leb-true, leb-false, eq-eqb, ne-eqb}
+use borrow.Author.Tests.{le-leb, lt-leb, leb-true, leb-false, ne-eqb}
 use Rattle.laws.specs.Memory.{Outcome, outcome, over}
 use Rattle.laws.specs.MemoryLaws.{over-length}
 use Rattle.laws.specs.TestLaws.{pick-cases, pick-same}
@@ -32,7 +32,7 @@ use Rattle.listing.specs.declared.step.StepListed.the-variants.{Refused,
 -- A read that brought no bytes is at the end of the input, and one that brought some is not.
 pub none-end : (read : ℕ) → read ≡ 0 → isEnd read ≡ true
 unfolding isEnd
-none-end read e = eq-eqb read 0 e
+none-end read e = subst (λ (n : ℕ). isEnd n ≡ true) (sym e) refl
 
 pub some-no-end : (read : ℕ) → 0 < read → isEnd read ≡ false
 unfolding isEnd
