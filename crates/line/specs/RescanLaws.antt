@@ -18,7 +18,7 @@ use Rattle.line_terms.specs.ScanLaws.{place-joined, place-count, place-kept}
 use Rattle.line_block.specs.Drain.{readingFrom}
 use Rattle.line_block.specs.DrainLaws.{reading-neither, reading-closed, draining-start}
 use Rattle.line_block.specs.Block.{blockReading, blockRead}
-use Rattle.line_block.specs.BlockLaws.{BlockDelivers, open-read, read-delivers, read-counts}
+use Rattle.line_block.specs.BlockLaws.{BlockDelivers, open-read, read-delivers}
 use Rattle.line_block.specs.RestLaws.{rest-there}
 use Rattle.line_block.specs.declared.BlockAnswer.the-variants.{Delivered}
 use Rattle.line.specs.Rescan.{Rescans}
@@ -75,7 +75,7 @@ module _ (kept line : List ℕ) (count b : ℕ) (e : take (count + 1) line ≡ t
         kept₁ ≡ over (take (count + 1 - at) (drop at line)) kept →
         Rescans (readingFrom 0 (take count kept ++ (b ∷ [])) false) kept kept₁ m m₁ (record { count = count + 1 - at; bytes = bytes; frames = frames })
     read-rescans kept₁ m m₁ at bytes frames l r k =
-        let w : BlockDelivers fromSecond false m m₁ bytes (at - 1) = read-delivers fromSecond false m m₁ bytes frames (at - 1) r in
+        let w : BlockDelivers fromSecond false m m₁ bytes frames (at - 1) = read-delivers fromSecond false m m₁ bytes frames (at - 1) r in
         let one : at ≡ 1 + (at - 1) = omega arith in
         let rest : take (count + 1 - at) (drop at line) ≡ drop (at - 1) fromSecond =
         part-of-front at (count + 1) line
@@ -89,7 +89,7 @@ module _ (kept line : List ℕ) (count b : ℕ) (e : take (count + 1) line ≡ t
           count = size ∙ ap length there;
           memory = w .memory ∙ ap (λ (x : List ℕ). over x m) on-joined;
           bytes = w .size ∙ ap length on-joined;
-          frames = read-counts fromSecond false m m₁ bytes frames (at - 1) r ∙ on-count;
+          frames = w .count ∙ on-count;
         }
 
 -- Reading the kept bytes before a silence keeps nothing.
@@ -98,11 +98,11 @@ pub silence-rescans : (x kept m m₁ : List ℕ) (bytes frames rest : ℕ) → o
 unfolding blockReading
 silence-rescans x kept m m₁ bytes frames rest r =
     let none : readingFrom 0 x true .kept ≡ [] = reading-closed 0 x in
-    let w : BlockDelivers x true m m₁ bytes rest = read-delivers x true m m₁ bytes frames rest r in
+    let w : BlockDelivers x true m m₁ bytes frames rest = read-delivers x true m m₁ bytes frames rest r in
     record {
       rest = ap (λ (l : List ℕ). over l kept) (sym none);
       count = ap length (sym none);
       memory = w .memory;
       bytes = w .size;
-      frames = read-counts x true m m₁ bytes frames rest r;
+      frames = w .count;
     }

@@ -1,11 +1,10 @@
--- Laws of reading a block: what draining it answers, and where the numbers of an answer lie.
-use Prim.Native.Nat.{ℕ, _+_, _-_, _≤_, _<_}
+-- Laws of reading a block: what draining it answers, and what an answer says.
+use Prim.Native.Nat.{ℕ, _-_, _≤_, _<_}
 use native.Mathlib.Omega.{arith}
 use mathlib.Core.Path.{_≡_, ap, sym, _∙_}
 use mathlib.Core.Bool.{Bool, true, false}
 use mathlib.Core.List.{List, [], _∷_, _++_, map, append-nil}
-use lib.ListN.{length, take, drop, length-take, length-drop, drop-of-length-le}
-use lib.Seq.{take-at}
+use lib.ListN.{length, drop, length-drop, drop-of-length-le}
 use lib.Dec.{leb}
 use borrow.Author.Tests.{le-leb, lt-leb, leb-true, leb-false}
 use Rattle.laws.specs.Memory.{Outcome, outcome, over}
@@ -30,7 +29,7 @@ unfolding blockRead
 read-refused block m ended h = rw (lt-leb _ _ h)
 
 -- Else the frames of the reading are delivered.
-pub read-delivered : (block m : List ℕ) (ended : Bool) → length block ≤ length m →
+read-delivered : (block m : List ℕ) (ended : Bool) → length block ≤ length m →
     blockRead block ended m ≡ delivered (blockReading block ended) (length block) m
 unfolding blockRead
 read-delivered block m ended h = rw (le-leb _ _ h)
@@ -74,29 +73,23 @@ unfolding blockReading readingFrom
 rest-most block ended = open-most _ (scan-kept-open 0 0 (symbols block ended))
 
 -- What the reading of a block has done that is not refused.
-pub record BlockDelivers (block : List ℕ) (ended : Bool) (m₀ m : List ℕ) (bytes rest : ℕ) : Type 0 where
+pub record BlockDelivers (block : List ℕ) (ended : Bool) (m₀ m : List ℕ) (bytes frames rest : ℕ) : Type 0 where
   pub roomy : length block ≤ length m₀
   pub memory : m ≡ over (joined (blockReading block ended .frames)) m₀
   pub size : bytes ≡ length (joined (blockReading block ended .frames))
+  pub count : frames ≡ length (blockReading block ended .frames)
   pub place : rest ≡ length block - length (blockReading block ended .kept)
 
 pub read-delivers : (block : List ℕ) (ended : Bool) (m₀ m : List ℕ) (bytes frames rest : ℕ) →
-    outcome (Delivered bytes frames rest) m ≡ blockRead block ended m₀ → BlockDelivers block ended m₀ m bytes rest
+    outcome (Delivered bytes frames rest) m ≡ blockRead block ended m₀ → BlockDelivers block ended m₀ m bytes frames rest
 unfolding blockRead delivered
 read-delivers block ended m₀ m bytes frames rest =
-    pick-cases (λ (o : Outcome BlockAnswer). outcome (Delivered bytes frames rest) m ≡ o → BlockDelivers block ended m₀ m bytes rest)
+    pick-cases (λ (o : Outcome BlockAnswer). outcome (Delivered bytes frames rest) m ≡ o → BlockDelivers block ended m₀ m bytes frames rest)
     (leb (length block) (length m₀))
     (λ t e.
     let a = ap (λ (o : Outcome BlockAnswer). o .answer) e in
-    record { roomy = leb-true _ _ t; memory = ap (λ (o : Outcome BlockAnswer). o .memory) e; size = cc; place = cc })
+    record { roomy = leb-true _ _ t; memory = ap (λ (o : Outcome BlockAnswer). o .memory) e; size = cc; count = cc; place = cc })
     (λ t e. let a = ap (λ (o : Outcome BlockAnswer). o .answer) e in let z : _≡_ {A = ℕ} 0 1 = cc in absurd (omega arith))
-
--- And it counts its frames.
-pub read-counts : (block : List ℕ) (ended : Bool) (m₀ m : List ℕ) (bytes frames rest : ℕ) →
-    outcome (Delivered bytes frames rest) m ≡ blockRead block ended m₀ → frames ≡ length (blockReading block ended .frames)
-unfolding delivered
-read-counts block ended m₀ m bytes frames rest e =
-    let a = ap (λ (o : Outcome BlockAnswer). o .answer) (e ∙ read-delivered block m₀ ended (read-delivers block ended m₀ m bytes frames rest e .roomy)) in cc
 
 -- What the reading of a block has done that is refused.
 pub record Declines (block m₀ m : List ℕ) (n : ℕ) : Type 0 where
@@ -114,21 +107,6 @@ read-declines block ended m₀ m n =
     let a = ap (λ (o : Outcome BlockAnswer). o .answer) e in
     record { short = leb-false _ _ t; number = cc; memory = ap (λ (o : Outcome BlockAnswer). o .memory) e })
 
--- Where the numbers of an answer lie: the frames within the memory, the place of the rest within the block and at most 211 bytes before its end.
-pub record Within (block m : List ℕ) (bytes rest : ℕ) : Type 0 where
-  pub memory : bytes ≤ length m
-  pub place : rest ≤ length block
-  pub most : length block ≤ rest + 211
-
-module _ {block m₀ m : List ℕ} {ended : Bool} {bytes rest : ℕ} (d : BlockDelivers block ended m₀ m bytes rest) where
-  -- The frames delivered stand at the front of their memory.
-  pub delivers-front : take bytes m ≡ joined (blockReading block ended .frames)
-  delivers-front = rw (d .memory) (take-at (joined (blockReading block ended .frames)) _ bytes (sym (d .size)))
-
-  pub delivers-within : Within block m bytes rest
-  delivers-within =
-      record {
-        memory = omega (arith, length-take bytes m, ap length delivers-front, d .size);
-        place = omega (arith, d .place);
-        most = omega (arith, d .place, rest-most block ended);
-      }
+-- The rest begins within the block.
+pub delivers-place : {block m₀ m : List ℕ} {ended : Bool} {bytes frames rest : ℕ} → BlockDelivers block ended m₀ m bytes frames rest → rest ≤ length block
+delivers-place d = omega (arith, d .place)

@@ -15,7 +15,7 @@ use Rattle.laws.specs.Memory.{outcome, over}
 use Rattle.laws.specs.TestLaws.{pick-cases}
 use Rattle.line_terms.specs.Places.{joined}
 use Rattle.line_block.specs.Block.{blockReading, blockRead}
-use Rattle.line_block.specs.BlockLaws.{BlockDelivers, read-declines, read-delivers, read-counts}
+use Rattle.line_block.specs.BlockLaws.{BlockDelivers, read-declines, read-delivers}
 use Rattle.line_block.specs.RestLaws.{rest-there}
 use Rattle.line_block.specs.declared.BlockAnswer.the-variants as block
 use Rattle.recording.specs.Step.{StepOutcome, stepOutcome, stepReading, stepped, stepRead}
@@ -43,7 +43,7 @@ module _ (kept read : ℕ) (ended : Bool) (buffer m : List ℕ) where
     -- Where the reading is not refused.
     module _ {m₁ : List ℕ} {bytes frames rest : ℕ}
         (e : outcome (block.Delivered bytes frames rest) m₁ ≡ blockRead (take (kept + read) buffer) ended m) where
-      has-read : BlockDelivers (take (kept + read) buffer) ended m m₁ bytes rest
+      has-read : BlockDelivers (take (kept + read) buffer) ended m m₁ bytes frames rest
       has-read = read-delivers (take (kept + read) buffer) ended m m₁ bytes frames rest e
 
       -- The rest lies within the block.
@@ -67,7 +67,7 @@ module _ (kept read : ℕ) (ended : Bool) (buffer m : List ℕ) where
           let room : kept + read ≤ length m = omega (arith, has-read .roomy, size) in
           let front : buffer₁ ≡ over (blockReading (take (kept + read) buffer) ended .kept) buffer = w ∙ ap (λ (l : List ℕ). over l buffer) moved in
           rw (le-leb _ _ fits, le-leb _ _ room)
-          (cc (has-read .memory, has-read .size, many, front, read-counts (take (kept + read) buffer) ended m m₁ bytes frames rest e))
+          (cc (has-read .memory, has-read .size, has-read .count, many, front))
 
 -- What a step comes to: refused with 1, for one of two reasons, and all as before; else what its bytes read as is delivered and kept.
 pub data Stepping (kept read : ℕ) (ended : Bool) (buffer m : List ℕ) (answer : StepAnswer) (buffer₁ m₁ : List ℕ) : Type 0 where

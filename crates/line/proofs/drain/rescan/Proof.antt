@@ -11,7 +11,7 @@ use borrow.Author.Tests.{not-false}
 use lib.ListN.{length, take, drop, replicate, length-take, length-append, length-drop}
 use lib.Seq.{length-take-le, take-at}
 use Rattle.line_block.specs.Block.{blockRead}
-use Rattle.line_block.specs.BlockLaws.{read-delivers, read-declines, delivers-within}
+use Rattle.line_block.specs.BlockLaws.{read-delivers, read-declines, delivers-place}
 use Rattle.line_block.specs.declared.BlockAnswer.{BlockAnswer}
 use Rattle.line_block.specs.declared.BlockAnswer.the-variants.{Delivered}
 use Rattle.line.specs.RescanLaws.{second-size, second-open, read-rescans}
@@ -62,7 +62,7 @@ joined-at c = c .before .before .before .before .before
 -- where they are known to be read so, the place of the rest lies among them
 rest-within : (c : tie.After-join) {m₁ : List ℕ} {bytes frames rest : ℕ} →
     outcome (Delivered bytes frames rest) m₁ ≡ blockRead (second c) false (at-start c .args .out .now) → rest ≤ at-start c .args .count
-rest-within c r = omega (arith, delivers-within (read-delivers (second c) false _ _ _ _ _ r) .place, size c)
+rest-within c r = omega (arith, delivers-place (read-delivers (second c) false _ _ _ _ _ r), size c)
 
 -- by either way they are read as a block
 reads : (c : tie.Joined1) →
