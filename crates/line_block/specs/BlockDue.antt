@@ -30,7 +30,7 @@ IsRefusal (Refused n) = Unit
 IsRefusal (Delivered bytes frames rest) = ⊥
 
 -- A block with memory shorter than it is refused with 1, and nothing is written.
-pub record IgnoresTheBlock (lent left : List ℕ) (answer : BlockAnswer) : Type 0 where
+pub record RefusesTheBlock (lent left : List ℕ) (answer : BlockAnswer) : Type 0 where
   pub number : answer ≡ Refused 1
   pub memory : LeftAlone lent left
 
@@ -49,7 +49,7 @@ pub record ReadsTheBlock (block : List ℕ) (ended : Bool) (lent left : List ℕ
 -- What holds of the reading of a block, whatever memory is lent.
 pub record BlockIsRight (block : List ℕ) (ended : Bool) (lent left : List ℕ) (answer : BlockAnswer) : Type 1 where
   pub refused : IsRefusal answer ↔ (length lent < length block)
-  pub short : length lent < length block → IgnoresTheBlock lent left answer
+  pub short : length lent < length block → RefusesTheBlock lent left answer
   pub enough : length block ≤ length lent → ReadsTheBlock block ended lent left answer
 
 -- With memory enough.

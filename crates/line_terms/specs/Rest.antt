@@ -15,13 +15,13 @@ pub record MayBecome (line : List Symbol) (place : ℕ) : Type 0 where
   pub completes : ProperBeginning begun
 
 -- No taken frame covers the place: what is taken at it or before it ends before it.
-abbrev pub Uncovered : Choice → ℕ → Type 0
-Uncovered taken place = (start : ℕ) (frame : List ℕ) → taken start frame → start ≤ place → start + length frame ≤ place
+abbrev pub CoveredByNone : Choice → ℕ → Type 0
+CoveredByNone taken place = (start : ℕ) (frame : List ℕ) → taken start frame → start ≤ place → start + length frame ≤ place
 
 -- The rest of a line: its bytes from the first place on that may still become a frame and that no taken frame covers.
 pub record RestOf (line : List Symbol) (kept : List ℕ) : Type 1 where
   pub place : ℕ
   pub there : drop place line ≡ map byte kept
   pub open-place : MayBecome line place
-  pub uncovered : (taken : Choice) → Keeps line taken → Uncovered taken place
-  pub first : (taken : Choice) → Keeps line taken → (earlier : ℕ) → earlier < place → MayBecome line earlier → Uncovered taken earlier → ⊥
+  pub uncovered : (taken : Choice) → Keeps line taken → CoveredByNone taken place
+  pub first : (taken : Choice) → Keeps line taken → (earlier : ℕ) → earlier < place → MayBecome line earlier → CoveredByNone taken earlier → ⊥

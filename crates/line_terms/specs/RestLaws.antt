@@ -10,7 +10,7 @@ use Rattle.frame.specs.Recognition.{recognised}
 use Rattle.frame.specs.RecognitionLaws.{open-completes, completes-open, frame-whole}
 use Rattle.frame.specs.declared.Recognised.the-variants.{Whole, Open}
 use Rattle.line_terms.specs.Line.{Symbol, byte, Stands, Choice, Keeps}
-use Rattle.line_terms.specs.Rest.{MayBecome, Uncovered, RestOf}
+use Rattle.line_terms.specs.Rest.{MayBecome, CoveredByNone, RestOf}
 use Rattle.line_terms.specs.BeginsLaws.{same-bytes}
 use Rattle.line_terms.specs.Scan.{scan}
 use Rattle.line_terms.specs.OneChoice.{OneChoice, one-choice}
@@ -56,7 +56,7 @@ module _ (x : List Symbol) where
 
   -- Any choice that keeps the rule takes what this one takes.
   module _ (taken : Choice) (keeps : Keeps x taken) where
-    stop-uncovered : Uncovered taken (read .stop)
+    stop-uncovered : CoveredByNone taken (read .stop)
     stop-uncovered start frame t h = go (read .passed .free (record { place = start; frame = frame }) (one .only taken keeps start frame .1 t))
       where
         go : Beside (read .stop) (record { place = start; frame = frame }) → start + length frame ≤ read .stop
@@ -65,7 +65,7 @@ module _ (x : List Symbol) where
             let e : start ≡ read .stop = omega arith in
             absurd (open-none x (read .stop) frame stop-open (rw e at (keeps start frame .0 t .0)))
 
-    earlier-given-up : (earlier : ℕ) → earlier < read .stop → MayBecome x earlier → Uncovered taken earlier → ⊥
+    earlier-given-up : (earlier : ℕ) → earlier < read .stop → MayBecome x earlier → CoveredByNone taken earlier → ⊥
     earlier-given-up earlier l m u =
         read .passed .given-up earlier (omega arith) l m (λ start frame t h. u start frame (one .only taken keeps start frame .0 t) h)
 

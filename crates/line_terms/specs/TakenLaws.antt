@@ -14,7 +14,7 @@ use Rattle.frame.specs.Recognition.{recognised}
 use Rattle.frame.specs.declared.Recognised.{Recognised}
 use Rattle.frame.specs.declared.Recognised.the-variants.{Whole, Open, Neither}
 use Rattle.line_terms.specs.Line.{Symbol, byte, silence, Stands, Choice, Covered, Keeps}
-use Rattle.line_terms.specs.Rest.{MayBecome, Uncovered}
+use Rattle.line_terms.specs.Rest.{MayBecome, CoveredByNone}
 use Rattle.line_terms.specs.Places.{Found}
 use Rattle.line_terms.specs.BeginsLaws.{bytes-from, before-silence-whole, begins-open, unbroken, bytes-length}
 use Rattle.line_terms.specs.Scan.{LineReading, bytesBefore, broken, beforeSilence, begins, before, readingBy, scan}
@@ -128,7 +128,7 @@ pub record Passed (line : List Symbol) (taken : Choice) (from to : ℕ) (fs : Li
   pub found : (g : Found) → List·Memᴰ g fs → Takes taken g
   pub rest : (g : Found) → Takes taken g → from ≤ g .place → List·Memᴰ g fs ⊎ (to ≤ g .place)
   pub free : Free taken to
-  pub given-up : (place : ℕ) → from ≤ place → place < to → MayBecome line place → Uncovered taken place → ⊥
+  pub given-up : (place : ℕ) → from ≤ place → place < to → MayBecome line place → CoveredByNone taken place → ⊥
 
 -- A reading from a place on: where it stops, and that the bytes kept stand there, before what follows, and may still become a frame.
 pub record Read (line more : List Symbol) (taken : Choice) (from : ℕ) (r : LineReading) : Type 0 where
@@ -176,7 +176,7 @@ module _ (line more : List Symbol) (taken : Choice) where
   passed-by : (from to : ℕ) (fs : List Found) → from ≤ to → Free taken from →
       ((g : Found) → List·Memᴰ g fs → Takes taken g × (g .place + length (g .frame) ≤ to)) →
       ((g : Found) → Takes taken g → from ≤ g .place → List·Memᴰ g fs ⊎ (to ≤ g .place)) →
-      ((place : ℕ) → from ≤ place → place < to → MayBecome line place → Uncovered taken place → ⊥) → Passed line taken from to fs
+      ((place : ℕ) → from ≤ place → place < to → MayBecome line place → CoveredByNone taken place → ⊥) → Passed line taken from to fs
   passed-by from to fs up free found rest given-up =
       record { found = λ g m. found g m .0; rest = rest; free = λ g t. after g t (free g t); given-up = given-up }
     where

@@ -10,14 +10,14 @@ use Rattle.line_terms.specs.Scan.{scan}
 use Rattle.line_terms.specs.ScanLaws.{More, more, place-frames, place-kept}
 
 -- With these symbols behind the kept bytes the scan finds these frames and keeps these bytes.
-pub record Brings (kept : List ℕ) (y : List Symbol) (frames : List (List ℕ)) (next : List ℕ) : Type 0 where
+pub record BringsFrames (kept : List ℕ) (y : List Symbol) (frames : List (List ℕ)) (next : List ℕ) : Type 0 where
   pub found : frames ≡ framesOf (scan 0 0 (map byte kept ++ y) .frames)
   pub keeps : next ≡ scan 0 0 (map byte kept ++ y) .kept
 
 -- Turns from the kept bytes on: all their symbols, all their frames, and what is kept after them.
 pub data Turns : List ℕ → List Symbol → List (List ℕ) → List ℕ → Type 0 where
   none : {kept : List ℕ} → Turns kept [] [] kept
-  turn : {kept next last : List ℕ} {y z : List Symbol} {frames more : List (List ℕ)} → Brings kept y frames next → Turns next z more last →
+  turn : {kept next last : List ℕ} {y z : List Symbol} {frames more : List (List ℕ)} → BringsFrames kept y frames next → Turns next z more last →
       Turns kept (y ++ z) (frames ++ more) last
 
 -- After more symbols the line reads as these frames more, and these bytes are kept.
@@ -26,7 +26,7 @@ pub record ReadsAs (x y : List Symbol) (frames : List (List ℕ)) (kept : List �
   pub keeps : scan 0 0 (x ++ y) .kept ≡ kept
 
 pub brings-reads : (x : List Symbol) {kept next : List ℕ} {y : List Symbol} {frames : List (List ℕ)} → kept ≡ scan 0 0 x .kept →
-    Brings kept y frames next → ReadsAs x y frames next
+    BringsFrames kept y frames next → ReadsAs x y frames next
 brings-reads x {y = y} e b =
     let m : More x y = more x y in
     record {

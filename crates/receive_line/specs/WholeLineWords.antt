@@ -15,7 +15,7 @@ use Rattle.line_terms.specs.Closed.{taken-frames}
 use Rattle.receive_line.specs.WholeLine.{framesIn, receivedLine}
 
 -- Memory shorter than the input: the largest number of 64 bits, and nothing is written.
-pub record Declined (m left : List ℕ) (answer : ℕ) : Type 0 where
+pub record LineRefused (m left : List ℕ) (answer : ℕ) : Type 0 where
   pub number : answer ≡ 2 ^ 64 - 1
   pub memory : LeftAlone m left
 
@@ -26,7 +26,7 @@ pub record Gathered (input m left : List ℕ) (answer : ℕ) : Type 1 where
   pub memory : left ≡ over (joined (taken .frames)) m
 
 pub record LineIsRight (input m left : List ℕ) (answer : ℕ) : Type 1 where
-  pub short : length m < length input → Declined m left answer
+  pub short : length m < length input → LineRefused m left answer
   pub enough : length input ≤ length m → Gathered input m left answer
 
 pub line-words : (input m left : List ℕ) (answer : ℕ) → outcome answer left ≡ receivedLine input m → LineIsRight input m left answer

@@ -13,7 +13,7 @@ use Rattle.line_terms.specs.RestLaws.{scan-rest}
 use Rattle.line_terms.specs.Places.{framesOf, Exactly}
 use Rattle.line_terms.specs.Scan.{LineReading, scan}
 use Rattle.line_terms.specs.NewFrames.{newly-found, new-reads}
-use Rattle.line_terms.specs.Turns.{Brings, brings-reads, Turns, none, turn, turns-from-nothing}
+use Rattle.line_terms.specs.Turns.{BringsFrames, brings-reads, Turns, none, turn, turns-from-nothing}
 use Rattle.recording.specs.Chain.{Says, refuses, keeps, IsRefusal, BufferCall, keptBy, keptAfter, GoesOn, Chain, heardBy, heard}
 
 -- What the bytes kept and the symbols brought read as.
@@ -52,7 +52,7 @@ call-turns {front} {c = c} h (reads a b) t = rw a (turn brings (rw kept at t))
     kept : keptBy (c .says) front (c .left) ≡ readingOf c .kept
     kept = rw (a, b, take-append-seam (readingOf c .kept) _)
 
-    brings : Brings front (c .brought) (framesOf (readingOf c .frames)) (readingOf c .kept)
+    brings : BringsFrames front (c .brought) (framesOf (readingOf c .frames)) (readingOf c .kept)
     brings = record { found = ap (λ (r : LineReading). framesOf (r .frames)) reading; keeps = ap (λ (r : LineReading). r .kept) reading }
 
 calls-turn : (front : List ℕ) (calls : List BufferCall) → Chain front calls → AllOf Answers calls → Turns front (heard calls) (foundIn calls) (keptAfter front calls)
@@ -80,7 +80,7 @@ newly-read : (line : List Symbol) {front : List ℕ} {c : BufferCall} → front 
 newly-read line {front} {c} e h w =
     let reading : readingOf c ≡ scan 0 0 (map byte (scan 0 0 line .kept) ++ c .brought) =
     call-reading h w ∙ ap (λ (l : List ℕ). scan 0 0 (map byte l ++ c .brought)) e in
-    let brings : Brings (scan 0 0 line .kept) (c .brought) (framesOf (readingOf c .frames)) (readingOf c .kept) =
+    let brings : BringsFrames (scan 0 0 line .kept) (c .brought) (framesOf (readingOf c .frames)) (readingOf c .kept) =
     record { found = ap (λ (r : LineReading). framesOf (r .frames)) reading; keeps = ap (λ (r : LineReading). r .kept) reading } in
     record {
       new = newly-found line (c .brought);
