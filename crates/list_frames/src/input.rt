@@ -7,7 +7,7 @@ use libc::STDOUT_FILENO;
 use listing::step::StepListed;
 
 // How an input goes on.
-pub enum Next {
+pub(crate) enum Next {
     // More is to be read.
     More,
     // It has ended, and every line is written.
@@ -101,7 +101,7 @@ fn turn(fd: i32, kept: usize, buffer: &mut [u8], frames: &mut [u8], text: &mut [
 
 // Lists the frames of the whole input, and says how it ended. A proved loop has to end, and nothing says that the input does: so
 // the loop counts its turns down, from a number that no run uses up.
-pub fn list_all(fd: i32, buffer: &mut [u8], frames: &mut [u8], text: &mut [u8]) -> Next
+pub(crate) fn list_all(fd: i32, buffer: &mut [u8], frames: &mut [u8], text: &mut [u8]) -> Next
     requires { ⌜ mostKept < length (now buffer) ⌝ }
 {
     let mut kept = 0;
