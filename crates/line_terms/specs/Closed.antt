@@ -27,7 +27,7 @@ front-within [] (b ∷ bs) e = absurd (let z : _≡_ {A = ℕ} 0 1 = cc in omega
 front-within (s ∷ x) (b ∷ bs) e = omega (arith, front-within x bs (cc))
 
 -- So a closed line is not made of bytes alone.
-not-bytes : (x : List Symbol) (b : List ℕ) → closed x ≡ map byte b → ⊥
+pub not-bytes : (x : List Symbol) (b : List ℕ) → closed x ≡ map byte b → ⊥
 not-bytes x b e =
     let l : length x + 1 ≡ length b = rw (length-append, length-map) at (ap length e) in
     omega (arith, front-within x b (bytes-all b e))

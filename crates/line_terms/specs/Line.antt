@@ -44,7 +44,8 @@ Keeps line taken =
 abbrev pub Taken : List Symbol → ℕ → List ℕ → Type 1
 Taken line place frame = (taken : Choice) → Keeps line taken → taken place frame
 
--- Document 01's term certain: a frame is certain after a list of symbols if it is taken, at the same place, in every list that begins with that one.
+-- Document 01's term certain: a frame is certain after a list of symbols if it is taken, at the same place, in every list that begins with
+-- that one; what comes is bytes, below 256, and silences.
 abbrev pub Certain : List Symbol → ℕ → List ℕ → Type 1
 Certain line place frame =
     (more : List Symbol) → AllBytes more → (taken : Choice) → Keeps (line ++ more) taken → taken place frame

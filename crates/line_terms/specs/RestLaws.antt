@@ -1,21 +1,23 @@
--- What the scan keeps is the rest of the line, and a line has one rest only.
+-- What the scan keeps is the rest of the line, and a line has one rest only; behind a silence nothing is kept.
 use Prim.Native.Nat.{ℕ, _+_, _≤_, _<_}
 use native.Mathlib.Omega.{arith}
 use native.Mathlib.Decide.{decLt}
 use mathlib.Core.Path.{_≡_, refl, sym, _∙_, ap}
 use mathlib.Core.Logic.{inl, inr}
 use mathlib.Core.List.{List, [], _∷_, _++_, map, append-nil}
-use lib.ListN.{length, take, drop}
+use lib.ListN.{length, take, drop, length-append, drop-of-length-le}
+use lib.Seq.{drop-append-le}
 use Rattle.frame.specs.Recognition.{recognised}
 use Rattle.frame.specs.RecognitionLaws.{open-completes, completes-open, frame-whole}
 use Rattle.frame.specs.declared.Recognised.the-variants.{Whole, Open}
-use Rattle.line_terms.specs.Line.{Symbol, byte, Stands, Choice, Keeps}
+use Rattle.line_terms.specs.Line.{Symbol, byte, silence, Stands, Choice, Keeps}
 use Rattle.line_terms.specs.Rest.{MayBecome, CoveredByNone, RestOf}
 use Rattle.line_terms.specs.BeginsLaws.{same-bytes}
 use Rattle.line_terms.specs.Scan.{scan}
 use Rattle.line_terms.specs.OneChoice.{OneChoice, one-choice}
 use Rattle.line_terms.specs.TakenLaws.{Read, Beside}
 use Rattle.line_terms.specs.ScanCertain.{scan-reads}
+use Rattle.line_terms.specs.Closed.{not-bytes}
 
 -- Bytes that stand in front of others.
 in-front : (k f : List ℕ) → take (length f) (map byte k) ≡ map byte f → f ++ drop (length f) k ≡ k
@@ -93,3 +95,16 @@ module _ (x : List Symbol) where
             | yes l ↦ absurd (never r s l)
             | no l ↦ elim (decLt (s .place) (r .place)) [ yes k ↦ absurd (never s r k) | no k ↦ omega arith ]
           ]
+
+-- Behind a silence nothing is kept.
+pub ended-rest : (x : List Symbol) → scan 0 0 (x ++ (silence ∷ [])) .kept ≡ []
+ended-rest x =
+    let r : RestOf (x ++ (silence ∷ [])) (scan 0 0 (x ++ (silence ∷ [])) .kept) = scan-rest (x ++ (silence ∷ [])) in
+    let long : length (x ++ (silence ∷ [])) ≡ length x + 1 = length-append x (silence ∷ []) in
+    elim (decLt (length x) (r .place)) [
+      | yes l ↦ same-bytes (scan 0 0 (x ++ (silence ∷ [])) .kept) [] (sym (r .there) ∙ drop-of-length-le (x ++ (silence ∷ [])) {i = r .place} (omega arith))
+      | no l ↦
+          absurd
+          (not-bytes (drop (r .place) x) (scan 0 0 (x ++ (silence ∷ [])) .kept)
+          (sym (drop-append-le (r .place) x (silence ∷ []) (omega arith)) ∙ r .there))
+    ]

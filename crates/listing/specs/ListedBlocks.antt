@@ -1,4 +1,4 @@
--- A line listed in blocks, cut anywhere: one theorem over every list of steps from an empty buffer. In all they write exactly the lines of the
+-- A line listed in blocks, cut anywhere: one theorem over every list of steps from a buffer that keeps nothing. In all they write exactly the lines of the
 -- frames certain after the line that they bring, in rising place, and each step the lines of those that became certain with it. A step that
 -- read nothing is at the end of the input, and the end is a silence.
 use Prim.Native.Nat.{ℕ, _+_, _≤_}
@@ -6,7 +6,7 @@ use native.Mathlib.Omega.{arith}
 use native.Mathlib.Decide.{decLt}
 use mathlib.Core.Path.{_≡_, refl, ap, sym, subst, _∙_}
 use mathlib.Core.Logic.{_↔_, inl, inr}
-use mathlib.Core.List.{List, [], _∷_, _++_, map, map-append}
+use mathlib.Core.List.{List, [], _∷_, _++_, map, map-append, append-assoc}
 use lib.ListN.{length, take, drop, length-drop}
 use lib.Seq.{take-append-seam, length-take-le}
 use Rattle.laws.specs.All.{AllOf}
@@ -23,7 +23,7 @@ use Rattle.line_block.specs.Drain.{symbols}
 use Rattle.line_block.specs.BlockLaws.{rest-most}
 use Rattle.recording.specs.Step.{stepReading}
 use Rattle.recording.specs.Chain.{Says, refuses, keeps, IsRefusal, BufferCall, keptAfter, Chain, heard}
-use Rattle.recording.specs.ChainLaws.{readingOf, Answers, refused, reads, foundBy, foundIn, chain-finds, chain-keeps, NewlyRead, chain-each}
+use Rattle.recording.specs.ChainLaws.{readingOf, Answers, refused, reads, foundBy, foundIn, chain-finds, chain-keeps, NewlyRead, chain-each, chain-anew}
 use Rattle.recording.specs.Blocks.{newBytes, step-reading}
 use Rattle.listing.specs.Lines.{linesOf}
 use Rattle.listing.specs.LinesLaws.{lines-append}
@@ -97,8 +97,8 @@ pub record ListRefusal (c : ListCall) : Type 0 where
   pub text : IsShort c → LeftAlone (c .lentText) (c .leftText)
 
 -- Any other step, by the line before it: the frames that became certain with what it brings stand end to end over the front of the one memory,
--- their lines over the front of the other, and are counted; the rest of the line, at most 211 bytes, stands over the front of the buffer, and is
--- counted.
+-- and their lines over the front of the other, which are as many bytes as it says; the rest of the line, at most 211 bytes, stands over the
+-- front of the buffer, and is as many bytes as it says.
 pub record StepLists (line : List Symbol) (c : ListCall) : Type 1 where
   pub new : Exactly (Newly line (broughtBy c))
   pub kept : List ℕ
@@ -214,7 +214,7 @@ pub lines-of : (calls : List ListCall) → AllOf IsListStep calls → Chain [] (
     listedText calls ≡ linesOf (framesOf (scan 0 0 (lineOf calls) .frames))
 lines-of calls s h = all-text calls s ∙ ap linesOf (sym (chain-finds (map onBuffer calls) h (steps-answer calls s)))
 
--- Of every list of steps from an empty buffer.
+-- Of every list of steps from a buffer that keeps nothing.
 pub blocks-listed : (calls : List ListCall) → AllOf IsListStep calls → Chain [] (map onBuffer calls) → ListsTheLine calls
 blocks-listed calls s h =
     record {
@@ -242,3 +242,20 @@ pub record ListsTheInput (input : List ℕ) (calls : List ListCall) : Type 1 whe
 pub input-listed : (input : List ℕ) (calls : List ListCall) → AllOf IsListStep calls → Chain [] (map onBuffer calls) →
     lineOf calls ≡ map byte input ++ (silence ∷ []) → ListsTheInput input calls
 input-listed input calls s h e = record { taken = taken-frames (map byte input); text = rw e at (lines-of calls s h) }
+
+-- Behind the end of an input the listing begins anew: the text of several inputs, each with its own end, is the text of each, one behind the other.
+pub record ListsAnew (first others : List ListCall) : Type 0 where
+  pub first-chain : Chain [] (map onBuffer first)
+  pub others-chain : Chain [] (map onBuffer others)
+  pub text : listedText (first ++ others) ≡ listedText first ++ listedText others
+
+text-append : (a b : List ListCall) → listedText (a ++ b) ≡ listedText a ++ listedText b
+text-append [] b = refl
+text-append (c ∷ a) b = rw (text-append a b, append-assoc)
+
+pub listed-anew : (first others : List ListCall) (line : List Symbol) → AllOf IsListStep (first ++ others) → Chain [] (map onBuffer (first ++ others)) →
+    lineOf first ≡ line ++ (silence ∷ []) → ListsAnew first others
+listed-anew first others line s h e =
+    let split : map onBuffer (first ++ others) ≡ map onBuffer first ++ map onBuffer others = map-append onBuffer first others in
+    let both = chain-anew (map onBuffer first) (map onBuffer others) line (subst (Chain []) split h) (subst (AllOf Answers) split (steps-answer (first ++ others) s)) e in
+    record { first-chain = both .0; others-chain = both .1; text = text-append first others }

@@ -35,11 +35,11 @@ readingListed d buffer frames text =
     listingOutcome (Listed (length (linesOf (framesOf (d .frames)))) (length (d .kept))) (over (d .kept) buffer)
     (over (joined (d .frames)) frames) (over (linesOf (framesOf (d .frames))) text)
 
--- The memory is too short: the text's is not twice as long as the bytes of the step, or the buffer or the frames' shorter than they.
+-- The memory is too short: the text's is shorter than twice the bytes of the step, or the buffer or the frames' shorter than they.
 abbrev pub TooShort : ℕ → List ℕ → List ℕ → List ℕ → Type 0
 TooShort n buffer frames text = (length text < 2 * n) ⊎ ((length buffer < n) ⊎ (length frames < n))
 
--- The outcome of a step over so many bytes kept and so many read behind them: 1 for a text memory not twice as long as these bytes, then for
+-- The outcome of a step over so many bytes kept and so many read behind them: 1 for a text memory shorter than twice these bytes, then for
 -- a buffer and for a frames memory shorter than they, and all as before; else what they read as is listed. The end of the input is taken as a
 -- silence.
 unfoldable pub stepListed : ℕ → ℕ → List ℕ → List ℕ → List ℕ → ListingOutcome

@@ -1,5 +1,5 @@
 // A step of the listing of a recorded line: document 01, "The listing program". It lists the frames that became certain with the
-// bytes read, and takes the end of the input as a silence. What every list of steps from an empty buffer writes is
+// bytes read, and takes the end of the input as a silence. What every list of steps from a buffer that keeps nothing writes is
 // `blocks-listed` in specs/ListedBlocks.antt.
 use crate::write_line;
 use frame::delivery::next_end;
@@ -41,7 +41,7 @@ fn write_lines(frames: &[u8], out: &mut [u8]) -> usize
 // Reads the first `kept` bytes of the buffer, the rest of the step before, and the `read` bytes behind them as a block of the
 // line, and writes a line for each frame that became certain to the front of `text`, by way of `frames`, where the frames stand
 // end to end. A step that read no bytes is at the end of the input, which is taken as a silence. Refused with 1 where the
-// buffer or `frames` is shorter than these bytes, or `text` not twice as long as they. The unfinished rest is moved to the
+// buffer or `frames` is shorter than these bytes, or `text` than twice these bytes. The unfinished rest is moved to the
 // front of the buffer; beyond what is written all three stay as they were.
 pub fn list_step(
     buffer: &mut [u8],

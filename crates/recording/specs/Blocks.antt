@@ -1,4 +1,4 @@
--- A line read in blocks, cut anywhere: one theorem over every list of steps from an empty buffer. In all they deliver exactly the frames
+-- A line read in blocks, cut anywhere: one theorem over every list of steps from a buffer that keeps nothing. In all they deliver exactly the frames
 -- certain after the line that they bring, each step those that became certain with it, and keep the rest of the line. The end of a line is a
 -- silence, so that what is certain behind it is what is taken in the line (`ended-taken`).
 use Prim.Native.Nat.{ℕ, _+_, _≤_, _<_}
@@ -44,7 +44,7 @@ pub record StepCall : Type 0 where
 abbrev pub IsStep : StepCall → Type 0
 IsStep c = stepOutcome (c .answer) (c .leftBuffer) (c .left) ≡ stepRead (c .kept) (c .read) (c .ended) (c .buffer) (c .lent)
 
--- The bytes that stand behind those kept, as many as were read.
+-- The bytes that stand behind those kept, as many as were read where the buffer has them.
 abbrev pub newBytes : ℕ → ℕ → List ℕ → List ℕ
 newBytes kept read buffer = take read (drop kept buffer)
 
@@ -97,7 +97,8 @@ pub record StepRefusal (c : StepCall) : Type 0 where
   pub memory : TooShort c → LeftAlone (c .lent) (c .left)
 
 -- Any other step, by the line before it: the frames that became certain with what it brings stand end to end over the front of the memory, and
--- are counted; the rest of the line, at most 211 bytes, stands over the front of the buffer, and is counted.
+-- are as many, of as many bytes, as it says; the rest of the line, at most 211 bytes, stands over the front of the buffer, and is as many bytes
+-- as it says.
 pub record StepReads (line : List Symbol) (c : StepCall) : Type 1 where
   pub new : Exactly (Newly line (broughtBy c))
   pub kept : List ℕ
@@ -219,7 +220,7 @@ all-find (c ∷ cs) h =
     let rest = all-find cs (h .1) in
     (rw (one .0, rest .0, flatten-append), rw (one .1, rest .1, length-append))
 
--- Of every list of steps from an empty buffer.
+-- Of every list of steps from a buffer that keeps nothing.
 pub blocks-due : (calls : List StepCall) → AllOf IsStep calls → Chain [] (map onBuffer calls) → ReadsTheLine calls
 blocks-due calls s h =
     let a : AllOf Answers (map onBuffer calls) = steps-answer calls s in

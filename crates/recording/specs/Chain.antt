@@ -39,7 +39,7 @@ pub record GoesOn (front : List ℕ) (c : BufferCall) : Type 0 where
   pub told : (IsRefusal (c .says) → ⊥) → c .kept ≡ length front
   pub begins : (IsRefusal (c .says) → ⊥) → take (length front) (c .buffer) ≡ front
 
--- Calls one after the other, each with what the last one kept.
+-- Calls one after the other, each that is not refused with what the last one kept.
 abbrev pub Chain : List ℕ → List BufferCall → Type 0
 Chain front [] = Unit
 Chain front (c ∷ cs) = GoesOn front c × Chain (keptBy (c .says) front (c .left)) cs

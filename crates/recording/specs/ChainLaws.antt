@@ -7,9 +7,9 @@ use lib.Seq.{take-append-seam}
 use Rattle.laws.specs.All.{AllOf}
 use Rattle.laws.specs.AllLaws.{all-before}
 use Rattle.laws.specs.Memory.{over}
-use Rattle.line_terms.specs.Line.{Symbol, byte, Newly}
+use Rattle.line_terms.specs.Line.{Symbol, byte, silence, Newly}
 use Rattle.line_terms.specs.Rest.{RestOf}
-use Rattle.line_terms.specs.RestLaws.{scan-rest}
+use Rattle.line_terms.specs.RestLaws.{scan-rest, ended-rest}
 use Rattle.line_terms.specs.Places.{framesOf, Exactly}
 use Rattle.line_terms.specs.Scan.{LineReading, scan}
 use Rattle.line_terms.specs.NewFrames.{newly-found, new-reads}
@@ -88,14 +88,23 @@ newly-read line {front} {c} e h w =
       rest = rw (brings-reads line refl brings .keeps) at (scan-rest (line ++ c .brought));
     }
 
--- Of calls joined, the first are calls, and the next goes on from what they keep.
-chain-split : (front : List ℕ) (earlier : List BufferCall) (c : BufferCall) (later : List BufferCall) → Chain front (earlier ++ (c ∷ later)) →
-    Chain front earlier × GoesOn (keptAfter front earlier) c
-chain-split front [] c later h = (tt, h .0)
-chain-split front (e ∷ es) c later h = let s = chain-split (keptBy (e .says) front (e .left)) es c later (h .1) in ((h .0, s .0), s .1)
+-- Of calls joined, the first are calls, and the others go on from what they keep.
+chain-split : (front : List ℕ) (earlier later : List BufferCall) → Chain front (earlier ++ later) →
+    Chain front earlier × Chain (keptAfter front earlier) later
+chain-split front [] later h = (tt, h)
+chain-split front (e ∷ es) later h = let s = chain-split (keptBy (e .says) front (e .left)) es later (h .1) in ((h .0, s .0), s .1)
 
 pub chain-each : (earlier : List BufferCall) (c : BufferCall) (later : List BufferCall) → Chain [] (earlier ++ (c ∷ later)) →
     AllOf Answers (earlier ++ (c ∷ later)) → (IsRefusal (c .says) → ⊥) → NewlyRead (heard earlier) c
 chain-each earlier c later h a w =
-    let s = chain-split [] earlier c later h in
-    newly-read (heard earlier) (sym (chain-front earlier (s .0) (all-before Answers earlier (c ∷ later) a))) (s .1) w
+    let s = chain-split [] earlier (c ∷ later) h in
+    newly-read (heard earlier) (sym (chain-front earlier (s .0) (all-before Answers earlier (c ∷ later) a))) (s .1 .0) w
+
+-- Behind calls whose line ends in a silence the others begin anew.
+pub chain-anew : (earlier later : List BufferCall) (x : List Symbol) → Chain [] (earlier ++ later) → AllOf Answers (earlier ++ later) →
+    heard earlier ≡ x ++ (silence ∷ []) → Chain [] earlier × Chain [] later
+chain-anew earlier later x h a e =
+    let s = chain-split [] earlier later h in
+    let none : keptAfter [] earlier ≡ [] =
+    sym (chain-front earlier (s .0) (all-before Answers earlier later a)) ∙ ap (λ (l : List Symbol). scan 0 0 l .kept) e ∙ ended-rest x in
+    (s .0, rw none at (s .1))

@@ -1,6 +1,6 @@
 // A recorded line read in blocks, without a receiver: document 01, "Reading of the line". A step reads the bytes that a host has
 // put behind those kept from the step before, delivers the frames that became certain with them, and keeps the unfinished rest
-// at the front of the buffer. What every list of steps from an empty buffer delivers and keeps is `blocks-due` in
+// at the front of the buffer. What every list of steps from a buffer that keeps nothing delivers and keeps is `blocks-due` in
 // specs/Blocks.antt.
 use frame::refusal::SHORT_MEMORY;
 use line_block::BlockAnswer;
