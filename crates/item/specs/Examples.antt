@@ -2,26 +2,15 @@
 use mathlib.Core.Path.{_≡_, refl}
 use mathlib.Core.List.{[], _∷_}
 use Rattle.item_decimal.specs.Decimal.{isDecimal, firstBadFrom, firstBad, digits}
-use Rattle.item.specs.Table.{itemOf, energyItem, readings, readOnly, otherRows, found}
 use Rattle.item_range.specs.Range.{within}
 use Rattle.item.specs.Content.{digitsAt, threeWithin, dateInRange, minutesInRange, notSet, settlementDayInRange, inRange, contentOf}
-use Rattle.item.specs.declared.table.Kind.the-variants.{Energy, Date, DemandPeriod, Address, SettlementDay}
-use Rattle.item.specs.declared.table.Lookup.the-variants.{Listed, NotListed}
+use Rattle.item.specs.declared.table.Kind.the-variants.{Date, DemandPeriod, SettlementDay}
 use Rattle.item.specs.declared.content.Content.the-variants.{NotDecimal, OutOfRange}
 
--- 00 02 FF 0C has all columns of the last reverse row; the address is read and not written.
-reverse-row : itemOf 0x0002FF0C ≡ Listed (readOnly (Energy 1 0 5 12 1) 20)
-unfolding itemOf energyItem readings
-reverse-row = refl
-
-address-read : itemOf 0x04000401 ≡ Listed (readOnly Address 6)
-unfolding itemOf found otherRows
-address-read = refl
-
--- Both FF at once, all columns of all rows, is not an identifier.
-both-at-once : itemOf 0x0001FFFF ≡ NotListed
-unfolding itemOf energyItem readings
-both-at-once = refl
+-- 61 minutes are out of their range, and have no half byte above 9.
+sixty-one : contentOf DemandPeriod (0x61 ∷ []) ≡ OutOfRange
+unfolding contentOf firstBad firstBadFrom isDecimal inRange minutesInRange digitsAt digits within
+sixty-one = refl
 
 -- 3CH, sixty as a number, has a half byte above 9.
 sixty-binary : contentOf DemandPeriod (0x3C ∷ []) ≡ NotDecimal 0

@@ -6,3 +6,4 @@ pub mod Skip
 pub mod SkipLaws
 pub mod RestLaws
 pub mod BlockDue
+pub mod Examples
