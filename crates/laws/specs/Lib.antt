@@ -13,3 +13,6 @@ pub mod Walk
 pub mod Pass
 pub mod Checks
 pub mod ChecksLaws
+pub mod Words
+pub mod WordsLaws
+pub mod Said
