@@ -67,6 +67,6 @@ module _ {A B : Type 0} (fail : A → B) (passed : B) where
     pub failed-iff : (failure : A) → (firstFailing fail checks passed ≡ fail failure) ↔ FirstFails words failure
     failed-iff failure = (
       every-or-first (λ o. o ≡ fail failure → FirstFails words failure) checks words say (λ all e. absurd (apart failure (sym e)))
-      (λ other f e. rw (one other failure e) at f),
+          (λ other f e. rw (one other failure e) at f),
       first-answers checks words say failure,
     )
