@@ -32,13 +32,25 @@ pub record Rule (P : ℕ → Item → Type 0) : Type 0 where
       → P identifier (readOnly (Energy direction rate rates row rows) (4 * rates * rows))
   pub of-rows : InRows P otherRows
 
-module _ {P : ℕ → Item → Type 0} (rule : Rule P) (identifier : ℕ) where
-  -- The rule of a lookup's item, if one is listed.
-  abbrev Holds : Lookup → Type 0
-  Holds (Listed item) = P identifier item
-  Holds NotListed = Unit
+-- What is shown of identifiers and their items holds of a lookup, if it lists one.
+abbrev pub OfLookup : (ℕ → Item → Type 0) → ℕ → Lookup → Type 0
+OfLookup P identifier (Listed item) = P identifier item
+OfLookup P identifier NotListed = Unit
 
-  -- It holds of what energy identifiers list.
+-- What is shown of rows holds of what is found in them.
+pub found-rule : (P : ℕ → Item → Type 0) (identifier : ℕ) (rows : List Row) → InRows P rows → OfLookup P identifier (found identifier rows)
+unfolding found
+found-rule P identifier [] h = tt
+found-rule P identifier (r ∷ rows) h =
+    pick-cases (OfLookup P identifier) (eqb identifier (r .identifier))
+    (λ e. rw (eqb-true identifier (r .identifier) e) (h .0))
+    (λ e. found-rule P identifier rows (h .1))
+
+module _ {P : ℕ → Item → Type 0} (rule : Rule P) (identifier : ℕ) where
+  abbrev Holds : Lookup → Type 0
+  Holds = OfLookup P identifier
+
+  -- A rule holds of what energy identifiers list.
   energy-rule : (direction t s : ℕ) → direction ≤ 1 → Holds (energyItem direction t s)
   unfolding energyItem readings
   energy-rule direction t s d =
@@ -54,21 +66,12 @@ module _ {P : ℕ → Item → Type 0} (rule : Rule P) (identifier : ℕ) where
           → Holds (readings direction rate rates row rows)
       reading = rule .of-readings identifier direction
 
-  -- It holds of what is found in rows of which it is shown.
-  found-rule : (rows : List Row) → InRows P rows → Holds (found identifier rows)
-  unfolding found
-  found-rule [] h = tt
-  found-rule (r ∷ rows) h =
-      pick-cases Holds (eqb identifier (r .identifier))
-      (λ e. rw (eqb-true identifier (r .identifier) e) (h .0))
-      (λ e. found-rule rows (h .1))
-
   -- It holds of every lookup, and so of every listed item.
   item-rule : Holds (itemOf identifier)
   unfolding itemOf
   item-rule =
       pick-cases Holds (eqb (identifier / 65536) 1) (λ p. energy-rule 0 _ _ (omega arith))
-      (λ p. pick-cases Holds (eqb (identifier / 65536) 2) (λ q. energy-rule 1 _ _ (omega arith)) (λ q. found-rule otherRows (rule .of-rows)))
+      (λ p. pick-cases Holds (eqb (identifier / 65536) 2) (λ q. energy-rule 1 _ _ (omega arith)) (λ q. found-rule P identifier otherRows (rule .of-rows)))
 
   pub listed-rule : (item : Item) → itemOf identifier ≡ Listed item → P identifier item
   listed-rule item h = rw h at item-rule

@@ -1,6 +1,7 @@
 -- Laws of a data identifier in bytes: it is read back from its four bytes.
-use Prim.Native.Nat.{ℕ, _+_, _*_, _/_, _%_, _<_}
+use Prim.Native.Nat.{ℕ, _+_, _*_, _/_, _%_, _≤_, _<_}
 use mathlib.Core.Path.{_≡_, refl}
+use mathlib.Core.Logic.{_↔_}
 use mathlib.Core.List.{List, [], _∷_, _++_}
 use native.Mathlib.Nat.{div-div-eq-div-mul}
 use native.Mathlib.Omega.{arith}
@@ -42,3 +43,25 @@ identifier-take bytes = rw (at 0 (omega arith), at 1 (omega arith), at 2 (omega 
 pub identifier-front : (bytes : List ℕ) → identifierOf (getD bytes 0 0 ∷ getD bytes 1 0 ∷ getD bytes 2 0 ∷ getD bytes 3 0 ∷ []) ≡ identifierOf bytes
 unfolding identifierOf
 identifier-front bytes = refl
+
+-- Bytes begin with DI0, DI1, DI2 and DI3, in this order, exactly where their identifier is the number whose highest byte is DI3.
+pub identifier-iff : (bytes : List ℕ) → Bytes bytes → 4 ≤ length bytes → (di0 di1 di2 di3 : ℕ) → Bytes (di0 ∷ di1 ∷ di2 ∷ di3 ∷ [])
+    → (identifierOf bytes ≡ 0x1000000 * di3 + 0x10000 * di2 + 0x100 * di1 + di0) ↔ (take 4 bytes ≡ di0 ∷ di1 ∷ di2 ∷ di3 ∷ [])
+unfolding identifierOf
+identifier-iff [] bytes four di0 di1 di2 di3 dis = absurd (omega arith)
+identifier-iff (a ∷ []) bytes four di0 di1 di2 di3 dis = absurd (omega arith)
+identifier-iff (a ∷ b ∷ []) bytes four di0 di1 di2 di3 dis = absurd (omega arith)
+identifier-iff (a ∷ b ∷ c ∷ []) bytes four di0 di1 di2 di3 dis = absurd (omega arith)
+identifier-iff (a ∷ b ∷ c ∷ d ∷ more) bytes four di0 di1 di2 di3 dis = (apart, λ e. together (cc e) (cc e) (cc e) (cc e))
+  where
+    apart : a + (256 * b + (65536 * c + 16777216 * d)) ≡ 0x1000000 * di3 + 0x10000 * di2 + 0x100 * di1 + di0 → a ∷ b ∷ c ∷ d ∷ [] ≡ di0 ∷ di1 ∷ di2 ∷ di3 ∷ []
+    apart e =
+        let highest : d ≡ di3 = omega arith in
+        let third : c ≡ di2 = omega arith in
+        let second : b ≡ di1 = omega arith in
+        let first : a ≡ di0 = omega arith in
+        cc
+
+    together : a ≡ di0 → b ≡ di1 → c ≡ di2 → d ≡ di3
+        → a + (256 * b + (65536 * c + 16777216 * d)) ≡ 0x1000000 * di3 + 0x10000 * di2 + 0x100 * di1 + di0
+    together p q r s = omega arith

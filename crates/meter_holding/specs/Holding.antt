@@ -44,6 +44,14 @@ heldAt (Register at) n address registers forward reverse = part at n registers
 unfoldable pub valueHeld : Item → List ℕ → List ℕ → Rows → Rows → List ℕ
 valueHeld item address registers forward reverse = heldAt (locationOf (item .kind)) (item .length) address registers forward reverse
 
+-- The value held for what was looked up, and for an identifier: of one that is not listed none.
+abbrev pub valueOf : Lookup → List ℕ → List ℕ → Rows → Rows → List ℕ
+valueOf (Listed item) address registers forward reverse = valueHeld item address registers forward reverse
+valueOf NotListed address registers forward reverse = []
+
+unfoldable pub valueFor : ℕ → List ℕ → List ℕ → Rows → Rows → List ℕ
+valueFor identifier address registers forward reverse = valueOf (itemOf identifier) address registers forward reverse
+
 -- The registers with other bytes at a location; only a register is written.
 unfoldable pub registersWith : Location → List ℕ → List ℕ → List ℕ
 registersWith (Readings direction rate rates row rows) value registers = registers

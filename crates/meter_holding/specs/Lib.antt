@@ -1,2 +1,4 @@
 pub mod Holding
 pub mod HoldingLaws
+pub mod EnergiesWords
+pub mod FreshWords
