@@ -3,3 +3,4 @@ pub mod CommandLaws
 pub mod Addressee
 pub mod AddresseeLaws
 pub mod Reply
+pub mod ControlWords
