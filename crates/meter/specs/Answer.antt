@@ -17,6 +17,7 @@ use Rattle.item.specs.declared.table.Lookup.the-variants.{Listed, NotListed}
 use Rattle.energy.specs.Energies.{Rows}
 use Rattle.meter.specs.Meter.{untouched, withAddress, withPasswords, withValue, noted, valueHeld, withinRanges}
 use Rattle.meter_decision.specs.Decision.{Failure, errorByte, silence, checksOf}
+use Rattle.meter_holding.specs.Holding as holding
 use Rattle.meter_holding.specs.Holding.{locationOf}
 use Rattle.laws.specs.Part.{withPart}
 use Rattle.meter_decision.specs.Request.{itemAsked, operatorOf, writtenValue, newLevelOf, newPasswordOf}
@@ -43,8 +44,7 @@ failed command m (silence n) = silent n
 
 -- The value of what was looked up, and the meter with another value of it.
 abbrev pub valueOf : Lookup → Meter → Rows → Rows → List ℕ
-valueOf (Listed item) m forward reverse = valueHeld item m forward reverse
-valueOf NotListed m forward reverse = []
+valueOf l m forward reverse = holding.valueOf l (m .address) (m .registers) forward reverse
 
 abbrev pub withItem : Lookup → List ℕ → Meter → Meter
 withItem (Listed item) value m = withValue (locationOf (item .kind)) value m

@@ -77,13 +77,20 @@ module _ (bytes : List ℕ) (m : Meter) (forward reverse : Rows) where
         (replies (replyTo (controlFor command) false) (replyData command (dataOf bytes) m (valueAsked (dataOf bytes) m forward reverse)) (meterAfter command (dataOf bytes) m))
         m memory
 
+    -- A frame that reaches the table's checks is answered by what its command comes to.
+    pub answered-carried : (command : Command) → Reaches command
+        → answered bytes m forward reverse memory
+        ≡ delivered (carriedOut command (dataOf bytes) m (valueAsked (dataOf bytes) m forward reverse)) m memory
+    unfolding treated
+    answered-carried command w =
+        answered-treated (w .ranges) (w .room) (w .one-frame) ∙ rw (w .control, command-known command, w .for-meter)
+
     pub answered-normal : (command : Command) → Reaches command → AllHold (checksOf command (dataOf bytes) (m .key) (m .passwords))
         → answered bytes m forward reverse memory ≡ normal command
-    unfolding treated carriedOut
+    unfolding carriedOut
     answered-normal command w h =
-        answered-treated (w .ranges) (w .room) (w .one-frame)
-        ∙ rw (w .control, command-known command, w .for-meter)
-        (ap (λ (t : Treatment). delivered t m memory) (all-pass (failed command m) _ (checksOf command (dataOf bytes) (m .key) (m .passwords)) h))
+        answered-carried command w
+        ∙ ap (λ (t : Treatment). delivered t m memory) (all-pass (failed command m) _ (checksOf command (dataOf bytes) (m .key) (m .passwords)) h)
 
     -- The ways that an answer comes about: a refusal, an error reply, or the normal reply where every check holds.
     pub data Answers : Type 0 where

@@ -5,6 +5,7 @@ pub mod Answer
 pub mod Ranges
 pub mod MeterAfterLaws
 pub mod AnswerLaws
+pub mod FrameTerms
 pub mod CarriedOutLaws
 pub mod Writes
 pub mod Silence

@@ -24,7 +24,10 @@ use Rattle.item_same.specs.Same.{same}
 use Rattle.item_same.specs.SameLaws.{same-equal, equal-same}
 use Rattle.item_range.specs.Range.{within}
 use Rattle.item_range.specs.RangeLaws.{within-iff}
-use Rattle.item.specs.ContentLaws.{Range}
+use Rattle.item.specs.Content.{contentIsAllowed}
+use Rattle.item.specs.ContentLaws.{Range, content-allowed}
+use Rattle.item.specs.declared.content.Content.{Content}
+use Rattle.item.specs.declared.content.Content.the-variants.{Allowed, NotDecimal, OutOfRange}
 use Rattle.item.specs.Table.{itemOf, hasLength}
 use Rattle.item.specs.declared.table.Item.{Item}
 use Rattle.item.specs.declared.table.Lookup.{Lookup}
@@ -38,6 +41,12 @@ use Rattle.meter_decision.specs.declared.Decision.the-variants as decisi
 -- A test of equal numbers.
 eqb-iff : (a b : ℕ) → (eqb a b ≡ true) ↔ (a ≡ b)
 eqb-iff a b = (eqb-true a b, eq-eqb a b)
+
+-- The test of a content holds only of what is allowed.
+allowed : (c : Content) → contentIsAllowed c ≡ true → c ≡ Allowed
+allowed Allowed h = refl
+allowed (NotDecimal i) h = absurd (false≢true h)
+allowed OutOfRange h = absurd (false≢true h)
 
 module _ (payload : List ℕ) where
   -- The identifier is in the table.
@@ -62,7 +71,10 @@ module _ (payload : List ℕ) where
     is-allowed : named .0 .writable ≡ true → length (writtenValue payload) ≡ named .0 .length
         → (hasContent (itemAsked payload) (writtenValue payload) ≡ true) ↔ (Decimal (writtenValue payload) × Range (named .0 .kind) (writtenValue payload))
     unfolding itemAsked
-    is-allowed writable long = ?
+    is-allowed writable long = rw (named .1) (
+      λ h. content-allowed (named .0 .kind) (writtenValue payload) .0 (allowed _ h),
+      λ right. rw (content-allowed (named .0 .kind) (writtenValue payload) .1 right),
+    )
 
   -- The level and its password.
   right-password : (most : ℕ) (passwords : List ℕ)
