@@ -1,7 +1,7 @@
 -- Laws of a written frame: its length, and that taken apart it gives back what it was made of.
 use Prim.Native.Nat.{ℕ, _+_, _≤_, _<_}
-use mathlib.Core.Path.{_≡_, refl, ap, _∙_}
-use mathlib.Core.List.{List, [], _∷_, _++_, map}
+use mathlib.Core.Path.{_≡_, refl, ap, sym, _∙_}
+use mathlib.Core.List.{List, [], _∷_, _++_, map, append-nil}
 use lib.ListN.{length, length-append, length-map}
 use Rattle.frame.specs.Frame.{Frame, masked, unmasked, frameOf, addressOf, controlOf, dataOf, frameFor}
 use Rattle.laws.specs.Memory.{Bytes}
@@ -32,6 +32,12 @@ pub frame-for : (address : List ℕ) (control : ℕ) (payload : List ℕ) → le
 unfolding frameFor
 frame-for address control payload h k =
     record { address = address; control = control; field = map masked payload; six = h; most = rw length-map k; made = refl }
+
+-- A frame's address field has six bytes.
+pub address-six : {f : List ℕ} → Frame f → length (addressOf f) ≡ 6
+address-six {f} w =
+    let whole : f ≡ frameOf (w .address) (w .control) (w .field) ++ [] = w .made ∙ sym (append-nil _) in
+    rw (whole, address-part (w .address) (w .control) (w .field) [] (w .six)) (w .six)
 
 -- A written frame, whatever stands behind it, taken apart.
 module _ (address : List ℕ) (control : ℕ) (payload more : List ℕ) (six : length address ≡ 6) where

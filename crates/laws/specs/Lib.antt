@@ -15,4 +15,5 @@ pub mod Checks
 pub mod ChecksLaws
 pub mod Words
 pub mod WordsLaws
+pub mod WordsThen
 pub mod Said

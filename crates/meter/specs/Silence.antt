@@ -2,15 +2,13 @@
 use Prim.Native.Nat.{ℕ, _≤_}
 use mathlib.Core.Path.{_≡_, refl, ap, _∙_}
 use mathlib.Core.List.{List}
-use native.Mathlib.Omega.{arith}
 use lib.ListN.{length}
 use Rattle.frame.specs.Frame.{Frame, addressOf, controlOf}
-use Rattle.frame.specs.RecognitionLaws.{frame-least}
+use Rattle.frame.specs.FrameLaws.{address-six}
 use Rattle.frame.specs.Refusals.{notForThisMeter}
 use Rattle.energy.specs.Energies.{Rows}
 use Rattle.meter.specs.Meter.{MeterSized}
 use Rattle.meter.specs.Ranges.{InRanges}
-use Rattle.laws.specs.PartLaws.{part-length}
 use Rattle.item_command.specs.Command.{controlFor}
 use Rattle.item_command.specs.Addressee.{IsFor}
 use Rattle.item_command.specs.AddresseeLaws.{for-iff}
@@ -22,11 +20,6 @@ use Rattle.item_command.specs.declared.Command.{Command}
 -- A frame that no command of document 01 makes a frame for this meter.
 abbrev pub Foreign : List ℕ → Meter → Type 0
 Foreign bytes m = (command : Command) → controlOf bytes ≡ controlFor command → IsFor command (addressOf bytes) (m .address) → ⊥
-
--- A frame's address field has six bytes.
-address-six : {bytes : List ℕ} → Frame bytes → length (addressOf bytes) ≡ 6
-unfolding addressOf
-address-six {bytes} frame = part-length 1 6 bytes (omega (arith, frame-least frame))
 
 pub foreign-silent : (bytes : List ℕ) (m : Meter) (forward reverse : Rows) (memory : List ℕ) → MeterSized m → InRanges m forward reverse
     → 212 ≤ length memory → Frame bytes → Foreign bytes m → answered bytes m forward reverse memory ≡ refused notForThisMeter m memory

@@ -4,3 +4,5 @@ pub mod Building
 pub mod BuildingLaws
 pub mod Judging
 pub mod JudgingLaws
+pub mod JudgeWords
+pub mod JudgeWordsLaws
