@@ -6,8 +6,11 @@ pub mod Ranges
 pub mod MeterAfterLaws
 pub mod AnswerLaws
 pub mod FrameTerms
+pub mod PutToLaws
 pub mod CarriedOutLaws
 pub mod Writes
+pub mod Changes
 pub mod Silence
+pub mod FrameRight
 pub mod Replies
 pub mod Calls

@@ -8,7 +8,8 @@ use native.Mathlib.Omega.{arith}
 use lib.ListN.{length}
 use Rattle.laws.specs.ChecksLaws.{AllHold}
 use Rattle.laws.specs.Memory.{outcome, over}
-use Rattle.laws.specs.Words.{Say}
+use Rattle.laws.specs.Checks.{Check}
+use Rattle.laws.specs.Words.{Words, Say}
 use Rattle.laws.specs.WordsLaws.{all-every, first-answers}
 use Rattle.frame.specs.Frame.{Frame, addressOf, controlOf, dataOf, frameFor}
 use Rattle.frame.specs.FrameLaws.{address-six}
@@ -54,16 +55,21 @@ module _ (bytes : List ℕ) (m : Meter) (forward reverse : Rows) (memory : List 
             for-iff (addressOf bytes) (m .address) (address-six (r .one-frame)) (sized .address) (r .ranges .address .decimal) command .0 (r .for-meter);
       }
 
-  -- The checks of the table's row say its words.
-  row-says : (command : Command)
-      → Say (checksOf command (dataOf bytes) (m .key) (m .passwords)) (wordsOf command (dataOf bytes) (m .key) (m .passwords))
+  -- The checks of the table's row, and that they say its words.
+  abbrev checks : Command → List (Check Failure)
+  checks command = checksOf command (dataOf bytes) (m .key) (m .passwords)
+
+  abbrev words : Command → Words Failure
+  words command = wordsOf command (dataOf bytes) (m .key) (m .passwords)
+
+  row-says : (command : Command) → Say (checks command) (words command)
   row-says command = checks-say command (dataOf bytes) (m .key) (m .passwords) (data-bytes bytes)
 
-  pub row-holds : (command : Command) → Row bytes m forward reverse memory command → AllHold (checksOf command (dataOf bytes) (m .key) (m .passwords))
-  row-holds command = all-every _ _ (row-says command) .1
+  pub row-holds : (command : Command) → Row bytes m forward reverse memory command → AllHold (checks command)
+  row-holds command = all-every (checks command) (words command) (row-says command) .1
 
-  pub holds-row : (command : Command) → AllHold (checksOf command (dataOf bytes) (m .key) (m .passwords)) → Row bytes m forward reverse memory command
-  holds-row command = all-every _ _ (row-says command) .0
+  pub holds-row : (command : Command) → AllHold (checks command) → Row bytes m forward reverse memory command
+  holds-row command = all-every (checks command) (words command) (row-says command) .0
 
   -- Where every check holds, the normal reply.
   pub normally : (command : Command) → EveryCheckHolds bytes m forward reverse memory command
@@ -80,7 +86,12 @@ module _ (bytes : List ℕ) (m : Meter) (forward reverse : Rows) (memory : List 
   unfolding carriedOut
   fails command w f h =
       answered-carried bytes m forward reverse memory command (reaches command w)
-      ∙ ap (λ (t : Treatment). delivered t m memory) (first-answers (failed command m) _ _ _ (row-says command) f h)
+      ∙ ap (λ (t : Treatment). delivered t m memory) (first-answers (failed command m) normal (checks command) (words command) (row-says command) f h)
+    where
+      normal : Treatment
+      normal =
+          replies (replyTo (controlFor command) false) (replyData command (dataOf bytes) m (valueAsked (dataOf bytes) m forward reverse))
+          (meterAfter command (dataOf bytes) m)
 
   pub error-replied : (command : Command) → PutTo bytes m forward reverse memory command → (e : ℕ) → RowFails bytes m forward reverse memory command (errorByte e)
       → RepliesWith bytes m forward reverse memory (untouched m) (m .address) (errorFigure command) (e ∷ [])

@@ -7,6 +7,7 @@ use lib.ListN.{length}
 use lib.Dec.{leb}
 use borrow.Author.Tests.{leb-true, le-leb, eqb-true, eq-eqb}
 use Rattle.laws.specs.ChecksLaws.{AllHold, EachFailure, pass-or-any}
+use Rattle.laws.specs.Words.{Every}
 use Rattle.frame.specs.Refusals.{silentByRule}
 use Rattle.item_decimal.specs.Decimal.{Decimal}
 use Rattle.item_same.specs.Same.{same}
@@ -26,6 +27,7 @@ use Rattle.item.specs.declared.table.Lookup.{Lookup}
 use Rattle.item.specs.declared.table.Lookup.the-variants.{Listed, NotListed}
 use Rattle.meter_decision.specs.Request.{itemAsked, levelOf, passwordOf, writtenValue, newLevelOf}
 use Rattle.meter_decision.specs.Decision.{Failure, errorByte, silence, passwordAt, isListed, isWritable, hasContent, authorised, checksOf, failing, accepted, decided}
+use Rattle.meter_decision.specs.DecisionWords.{wordsOf}
 use Rattle.meter_decision.specs.declared.Decision.{Decision}
 use Rattle.meter_decision.specs.declared.Decision.the-variants.{Silent, Error, Read, OwnAddress, Write, NewAddress, NewPassword}
 
@@ -93,6 +95,30 @@ pub record WriteHolds (payload : List ℕ) (key : Bool) (passwords : List ℕ) :
   pub data-length : length (writtenValue payload) ≡ item .length
   pub decimal : Decimal (writtenValue payload)
   pub range : Range (item .kind) (writtenValue payload)
+
+-- They are the row of 14 in document 01's words, each by its name.
+module _ (payload : List ℕ) (key : Bool) (passwords : List ℕ) where
+  abbrev pub write-row : Every (wordsOf WriteData payload key passwords) → WriteHolds payload key passwords
+  write-row r =
+      let item = r .1 .0 in
+      let authority = r .1 .1 .1 .1 in
+      record {
+        least = r .0 .0;
+        most = r .0 .1;
+        item = item .0;
+        listed = item .1;
+        writable = r .1 .1 .0;
+        key-on = r .1 .1 .1 .0;
+        level = authority .0 .0;
+        password = authority .0 .1;
+        data-length = authority .1 .0;
+        decimal = authority .1 .1 .0 .0;
+        range = authority .1 .1 .0 .1;
+      }
+
+  pub row-write : WriteHolds payload key passwords → Every (wordsOf WriteData payload key passwords)
+  row-write w =
+      ((w .least, w .most), ((w .item, w .listed), (w .writable, (w .key-on, ((w .level, w .password), (w .data-length, ((w .decimal, w .range), tt)))))))
 
 -- The test of a content holds only of what is allowed.
 allowed : (c : Content) → contentIsAllowed c ≡ true → c ≡ Allowed
