@@ -14,3 +14,4 @@ pub mod Silence
 pub mod FrameRight
 pub mod Replies
 pub mod Calls
+pub mod FreshMeter
