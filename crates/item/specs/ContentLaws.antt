@@ -1,11 +1,15 @@
--- A content is allowed exactly where every half byte is 0 to 9 and document 01's ranges hold.
+-- A value may be written exactly where the item is writable, the length is the item's, every half byte is 0 to 9 and document 01's ranges
+-- hold.
 use Prim.Native.Nat.{ℕ, _≤_}
 use mathlib.Core.Path.{_≡_, refl, ap}
 use mathlib.Core.List.{List}
 use mathlib.Core.Bool.{Bool, true, false, _&&_, _||_, false≢true, or-true, and-eq-true-iff}
 use mathlib.Core.Logic.{_↔_}
 use native.Mathlib.Omega.{arith}
+use lib.ListN.{length}
+use lib.Dec.{eqb}
 use borrow.Author.Tests.{eqb-true, eq-eqb}
+use Rattle.laws.specs.TestLaws.{picked-first}
 use Rattle.item_range.specs.Range.{within}
 use Rattle.item_range.specs.RangeLaws.{within-iff}
 use Rattle.item_decimal.specs.Decimal.{Decimal, firstBad}
@@ -15,6 +19,7 @@ use Rattle.item_decimal.specs.declared.Scan.{Scan}
 use Rattle.item_decimal.specs.declared.Scan.the-variants.{AllDecimal, BadAt}
 use Rattle.item.specs.declared.table.Kind.{Kind}
 use Rattle.item.specs.declared.table.Kind.the-variants.{Energy, Date, Time, DemandPeriod, Slip, Address, MeterNumber, SettlementDay}
+use Rattle.item.specs.declared.table.Item.{Item}
 use Rattle.item.specs.declared.content.Content.the-variants.{Allowed}
 
 -- WW 00..06, DD 01..31, MM 01..12.
@@ -41,14 +46,14 @@ pub data SettlementDayRange (value : List ℕ) : Type 0 where
   unset : digitsAt value 0 ≡ 99 → digitsAt value 1 ≡ 99 → SettlementDayRange value
   on-day : digitsAt value 0 ≤ 23 → 1 ≤ digitsAt value 1 → digitsAt value 1 ≤ 28 → SettlementDayRange value
 
--- The range of each kind of item.
+-- The range of each kind of item. A meter number has none; no value is in the range of an energy or of the address, which are never written.
 abbrev pub Range : Kind → List ℕ → Type 0
-Range (Energy direction rate rates row rows) value = Unit
+Range (Energy direction rate rates row rows) value = ⊥
 Range Date value = DateRange value
 Range Time value = TimeRange value
 Range DemandPeriod value = MinutesRange value
 Range Slip value = MinutesRange value
-Range Address value = Unit
+Range Address value = ⊥
 Range MeterNumber value = Unit
 Range (SettlementDay n) value = SettlementDayRange value
 
@@ -85,12 +90,12 @@ module _ (value : List ℕ) where
 
   in-range : (kind : Kind) → inRange kind value ≡ true ↔ Range kind value
   unfolding inRange
-  in-range (Energy direction rate rates row rows) = (λ h. tt, λ u. refl)
+  in-range (Energy direction rate rates row rows) = (false≢true, λ none. absurd none)
   in-range Date = date-range
   in-range Time = time-range
   in-range DemandPeriod = minutes-range
   in-range Slip = minutes-range
-  in-range Address = (λ h. tt, λ u. refl)
+  in-range Address = (false≢true, λ none. absurd none)
   in-range MeterNumber = (λ h. tt, λ u. refl)
   in-range (SettlementDay n) = settlement-day-range
 
@@ -100,9 +105,17 @@ after-scan AllDecimal true h = (refl, refl)
 after-scan AllDecimal false h = (refl, ap contentIsAllowed h)
 after-scan (BadAt i) ranges h = absurd (false≢true (ap contentIsAllowed h))
 
-pub content-allowed : (kind : Kind) (value : List ℕ) → contentOf kind value ≡ Allowed ↔ (Decimal value × Range kind value)
+pub content-allowed : (item : Item) (value : List ℕ)
+    → contentOf item value ≡ Allowed ↔ ((item .writable ≡ true) × (length value ≡ item .length) × Decimal value × Range (item .kind) value)
 unfolding contentOf
-content-allowed kind value = (
-  λ h. let both = after-scan (firstBad value) (inRange kind value) h in (scan-decimal value (both .0), in-range value kind .0 (both .1)),
-  λ h. rw (decimal-scan value (h .0), in-range value kind .1 (h .1)),
-)
+content-allowed item value = (from, to)
+  where
+    from : contentOf item value ≡ Allowed → (item .writable ≡ true) × (length value ≡ item .length) × Decimal value × Range (item .kind) value
+    from h =
+        let writable = picked-first (item .writable) (ap contentIsAllowed) h in
+        let long = picked-first (eqb (length value) (item .length)) (ap contentIsAllowed) (writable .1) in
+        let both = after-scan (firstBad value) (inRange (item .kind) value) (long .1) in
+        (writable .0, eqb-true _ _ (long .0), scan-decimal value (both .0), in-range value (item .kind) .0 (both .1))
+
+    to : (item .writable ≡ true) × (length value ≡ item .length) × Decimal value × Range (item .kind) value → contentOf item value ≡ Allowed
+    to h = rw (h .0, eq-eqb _ _ (h .1), decimal-scan value (h .2), in-range value (item .kind) .1 (h .3))

@@ -1,4 +1,5 @@
 // The content of a written value: document 01, "Written content". A value stands low byte first.
+use crate::table::Item;
 use crate::table::Kind;
 use item_decimal::Scan;
 use item_decimal::digits_of;
@@ -7,9 +8,13 @@ use item_range::is_within;
 ghost use mathlib.Core.Path.{_≡_};
 ghost use Rattle.item.specs.Content.{digitsAt, threeWithin, dateInRange, timeInRange, minutesInRange, settlementDayInRange, inRange, contentOf};
 
-// The check of a written value's content.
+// Whether a value may be written to an item, and if not, why.
 pub enum Content {
     Allowed,
+    // The item is only read.
+    NotWritable,
+    // The value has not as many bytes as the item.
+    WrongLength,
     // The place of the first byte with a half byte above 9.
     NotDecimal(usize),
     OutOfRange,
@@ -80,34 +85,39 @@ fn settlement_day_in_range(value: &[u8]) -> bool
     ((hour == 99) & (day == 99)) | (is_within(0, 23, hour) & is_within(1, 28, day))
 }
 
-// The range of each kind of item.
+// The range of each kind of item. A meter number has none; no value is in the range of an energy or of the address, which are never written.
 fn in_range(kind: Kind, value: &[u8]) -> bool
     ensures { λ r. ⌜ r ≡ inRange kind (now (value .entry)) ⌝ }
 {
     match kind {
-        Kind::Energy { .. } => true,
+        Kind::Energy { .. } => false,
         Kind::Date => date_in_range(value),
         Kind::Time => time_in_range(value),
         Kind::DemandPeriod => minutes_in_range(value),
         Kind::Slip => minutes_in_range(value),
-        Kind::Address => true,
+        Kind::Address => false,
         Kind::MeterNumber => true,
         Kind::SettlementDay(_) => settlement_day_in_range(value),
     }
 }
 
-// Whether a value may be written to an item of this kind: decimal over the whole value first, then the range.
-pub fn content_of(kind: Kind, value: &[u8]) -> Content
-    ensures { λ r. ⌜ r ≡ contentOf kind (now (value .entry)) ⌝ }
+// Whether a value may be written to an item: the item writable, the value of its length, every half byte 0 to 9, then the range.
+pub fn content_of(item: Item, value: &[u8]) -> Content
+    ensures { λ r. ⌜ r ≡ contentOf item (now (value .entry)) ⌝ }
 {
-    let scan = first_bad(value);
-    match scan {
-        Scan::BadAt(i) => Content::NotDecimal(i),
-        Scan::AllDecimal => {
-            if in_range(kind, value) {
-                return Content::Allowed;
-            }
-            Content::OutOfRange
-        }
+    if !item.writable {
+        return Content::NotWritable;
     }
+    if value.len() != item.length {
+        return Content::WrongLength;
+    }
+    let scan = first_bad(value);
+    if let Scan::BadAt(i) = scan {
+        return Content::NotDecimal(i);
+    }
+    let kind = item.kind;
+    if !in_range(kind, value) {
+        return Content::OutOfRange;
+    }
+    Content::Allowed
 }

@@ -42,7 +42,7 @@ isWritable (Listed item) = item .writable
 isWritable NotListed = false
 
 abbrev pub hasContent : Lookup → List ℕ → Bool
-hasContent (Listed item) value = contentIsAllowed (contentOf (item .kind) value)
+hasContent (Listed item) value = contentIsAllowed (contentOf item value)
 hasContent NotListed value = false
 
 -- The level is at most `most` and the password of that level is right: of 14 at most 04, of 18 at most the new level.

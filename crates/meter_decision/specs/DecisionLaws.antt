@@ -21,7 +21,7 @@ use Rattle.item.specs.Content.{contentIsAllowed}
 use Rattle.item.specs.ContentLaws.{Range, content-allowed}
 use Rattle.item.specs.Table.{itemOf, hasLength}
 use Rattle.item.specs.declared.content.Content.{Content}
-use Rattle.item.specs.declared.content.Content.the-variants.{Allowed, NotDecimal, OutOfRange}
+use Rattle.item.specs.declared.content.Content.the-variants.{Allowed, NotWritable, WrongLength, NotDecimal, OutOfRange}
 use Rattle.item.specs.declared.table.Item.{Item}
 use Rattle.item.specs.declared.table.Lookup.{Lookup}
 use Rattle.item.specs.declared.table.Lookup.the-variants.{Listed, NotListed}
@@ -123,6 +123,8 @@ module _ (payload : List ℕ) (key : Bool) (passwords : List ℕ) where
 -- The test of a content holds only of what is allowed.
 allowed : (c : Content) → contentIsAllowed c ≡ true → c ≡ Allowed
 allowed Allowed h = refl
+allowed NotWritable h = absurd (false≢true h)
+allowed WrongLength h = absurd (false≢true h)
 allowed (NotDecimal i) h = absurd (false≢true h)
 allowed OutOfRange h = absurd (false≢true h)
 
@@ -141,7 +143,7 @@ module _ (payload : List ℕ) (key : Bool) (passwords : List ℕ) where
           → hasContent l (writtenValue payload) ≡ true → WriteHolds payload key passwords
       go NotListed e w n c = absurd (false≢true w)
       go (Listed item) e w n c =
-          let content = content-allowed (item .kind) (writtenValue payload) .0 (allowed _ c) in
+          let content = content-allowed item (writtenValue payload) .0 (allowed _ c) in
           record {
             least = lengths .0;
             most = lengths .1;
@@ -152,8 +154,8 @@ module _ (payload : List ℕ) (key : Bool) (passwords : List ℕ) where
             level = leb-true _ _ (right .0);
             password = same-equal _ _ (right .1);
             data-length = eqb-true _ _ n;
-            decimal = content .0;
-            range = content .1;
+            decimal = content .2;
+            range = content .3;
           }
 
   pub holds-write : WriteHolds payload key passwords → AllHold (checksOf WriteData payload key passwords)
@@ -165,5 +167,5 @@ module _ (payload : List ℕ) (key : Bool) (passwords : List ℕ) where
       let right : authorised 4 (levelOf payload) (passwordOf payload) passwords ≡ true = rw (le-leb _ _ (w .level)) (equal-same _ _ (w .password)) in
       let long : hasLength (itemAsked payload) (length (writtenValue payload)) ≡ true = rw (w .listed) (eq-eqb _ _ (w .data-length)) in
       let content : hasContent (itemAsked payload) (writtenValue payload) ≡ true =
-      rw (w .listed, content-allowed (w .item .kind) (writtenValue payload) .1 (w .decimal, w .range)) in
+      rw (w .listed, content-allowed (w .item) (writtenValue payload) .1 (w .writable, w .data-length, w .decimal, w .range)) in
       (size, (found, (writable, (w .key-on, (right, (long, (content, tt)))))))

@@ -72,8 +72,7 @@ pub(crate) fn write_data(payload: &[u8], key: bool, passwords: [u8; 30]) -> Deci
     let Tested::Holds = check_of(value.len() == item.length) else {
         return Decision::Error(OTHER_ERROR);
     };
-    let kind = item.kind;
-    let Content::Allowed = content_of(kind, value) else {
+    let Content::Allowed = content_of(item, value) else {
         return Decision::Error(OTHER_ERROR);
     };
     Decision::Write(identifier)

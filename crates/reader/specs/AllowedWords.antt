@@ -6,6 +6,7 @@ use mathlib.Core.Bool.{Bool, true, false, _||_, false≢true, or-true}
 use mathlib.Core.Logic.{_↔_}
 use native.Mathlib.Omega.{arith}
 use lib.ListN.{length}
+use lib.Seq.{length-take-le}
 use borrow.Author.Tests.{leb-true, le-leb, eqb-true, eq-eqb}
 use Rattle.laws.specs.Checks.{firstFailing}
 use Rattle.laws.specs.ChecksLaws.{AllHold, all-pass}
@@ -17,7 +18,6 @@ use Rattle.item.specs.ContentLaws.{Range, content-allowed}
 use Rattle.item.specs.Table.{itemOf, otherRows}
 use Rattle.item.specs.TableLaws.{InRows, listed-rule}
 use Rattle.item.specs.declared.table.Item.{Item}
-use Rattle.item.specs.declared.table.Kind.{Kind}
 use Rattle.item.specs.declared.table.Lookup.the-variants.{Listed}
 use Rattle.reader_judgement.specs.declared.Action.{Action}
 use Rattle.reader_judgement.specs.declared.Action.the-variants.{ReadData, ReadAddress, WriteData}
@@ -112,18 +112,18 @@ unfolding parts.conditionsOf parts.valueConditions requestValue
 admitted-write request h e =
     let held = allowed-hold request e .0 h in
     let listed = listed-hold (itemOf (request .identifier)) (parts.valueConditions (request .level) (request .value) (request .count)) (held .1) in
-    let kind : Kind = listed .0 .kind in
+    let item : Item = listed .0 in
     let value = listed .2 in
-    let content = content-allowed kind (requestValue request) .0 (content-holds (contentOf kind (requestValue request)) (value .1 .1 .1 .1)) in
+    let content = content-allowed item (requestValue request) .0 (content-holds (contentOf item (requestValue request)) (value .1 .1 .1 .1)) in
     record {
       address = good (request .address) (held .0);
-      item = listed .0;
+      item = item;
       listed = listed .1;
       writable = value .0;
       level = leb-true _ _ (value .1 .0);
       data-length = eqb-true _ _ (value .1 .1 .1 .0);
-      decimal = content .0;
-      range = content .1;
+      decimal = content .2;
+      range = content .3;
     }
 
 module _ (request : Request) (sized : RequestSized request) where
@@ -138,7 +138,9 @@ module _ (request : Request) (sized : RequestSized request) where
       allowed-hold request e .1 (is-readable (request .address) (sized .address) (w .address), rw (w .listed) tt)
   to-test ReadAddress e w = allowed-hold request e .1 tt
   to-test WriteData e w =
-      let content = content-allowed (w .item .kind) (requestValue request) .1 (w .decimal, w .range) in
+      let few = written-few request w in
+      let long : length (requestValue request) ≡ request .count = length-take-le (request .count) (request .value) (omega (arith, sized .value)) in
+      let content = content-allowed (w .item) (requestValue request) .1 (w .writable, long ∙ w .data-length, w .decimal, w .range) in
       allowed-hold request e .1 (
         is-good (request .address) (w .address),
         rw (w .listed) (
@@ -146,7 +148,7 @@ module _ (request : Request) (sized : RequestSized request) where
           (
             le-leb (request .level) 9 (w .level),
             (
-              le-leb (request .count) 38 (written-few request w),
+              le-leb (request .count) 38 few,
               (eq-eqb (request .count) (w .item .length) (w .data-length), rw content tt),
             ),
           ),

@@ -36,6 +36,8 @@ addressAllowed address = isGood address || isShort address
 -- What is asked of a value's content: that it is allowed.
 unfoldable pub contentChecks : Content → List (Check Cause)
 contentChecks content.Allowed = []
+contentChecks content.NotWritable = check false cause.NotWritable ∷ []
+contentChecks content.WrongLength = check false cause.Length ∷ []
 contentChecks (content.NotDecimal i) = check false cause.NotDecimal ∷ []
 contentChecks content.OutOfRange = check false cause.OutOfRange ∷ []
 
@@ -47,7 +49,7 @@ valueConditions level value count item =
     ∷ check (leb level 9) cause.Level
     ∷ check (leb count mostValue) cause.Length
     ∷ check (eqb count (item .length)) cause.Length
-    ∷ contentChecks (contentOf (item .kind) (take count value))
+    ∷ contentChecks (contentOf item (take count value))
 
 -- The conditions of each action, in their order, each with the cause of the refusal where it does not hold. Read address has none.
 unfoldable pub conditionsOf : Action → List ℕ → ℕ → ℕ → List ℕ → ℕ → List (Check Cause)

@@ -17,6 +17,8 @@ use Rattle.reader_allowed.specs.declared.Admission.the-variants.{Allowed
 pub content-holds : (said : Content) → AllHold (contentChecks said) → said ≡ content.Allowed
 unfolding contentChecks
 content-holds content.Allowed h = refl
+content-holds content.NotWritable h = absurd (false≢true (h .0))
+content-holds content.WrongLength h = absurd (false≢true (h .0))
 content-holds (content.NotDecimal i) h = absurd (false≢true (h .0))
 content-holds content.OutOfRange h = absurd (false≢true (h .0))
 

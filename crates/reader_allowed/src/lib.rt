@@ -71,10 +71,11 @@ fn value_admission(level: u8, value: [u8; MOST_VALUE], count: usize, item: Item)
     if count != item.length {
         return Admission::Refused(Cause::Length);
     }
-    let kind = item.kind;
-    let content = content_of(kind, &value[..count]);
+    let content = content_of(item, &value[..count]);
     match content {
         Content::Allowed => Admission::Allowed,
+        Content::NotWritable => Admission::Refused(Cause::NotWritable),
+        Content::WrongLength => Admission::Refused(Cause::Length),
         Content::NotDecimal(_) => Admission::Refused(Cause::NotDecimal),
         Content::OutOfRange => Admission::Refused(Cause::OutOfRange),
     }

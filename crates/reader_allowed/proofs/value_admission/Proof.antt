@@ -1,7 +1,7 @@
 -- Each test is the next condition of a write of a listed item, and the first that does not hold refuses. Behind them
 -- the content decides.
 use Prim.Native.Nat.{_≤_}
-use mathlib.Core.Path.{_≡_, ap, sym, _∙_}
+use mathlib.Core.Path.{_≡_, sym, _∙_}
 use mathlib.Core.Bool.{true}
 use native.Mathlib.Omega.{arith}
 use borrow.Author.Needs.{needs}
@@ -69,8 +69,13 @@ decided c content e =
     let at-long = c .before .before in
     let at-few = at-long .before .before in
     let at-level = at-few .before in
-    rw (writable (at-level .before), le-leb _ _ (level at-level), le-leb _ _ (few at-few), eq-eqb _ _ (long at-long))
-    (ap (λ (k : Content). firstFailing Refused (contentChecks k) Allowed) (sym e ∙ c .content-of .ensures))
+    rw (
+      sym (c .content-of .ensures) ∙ e,
+      writable (at-level .before),
+      le-leb _ _ (level at-level),
+      le-leb _ _ (few at-few),
+      eq-eqb _ _ (long at-long),
+    )
 
 returns-5 : tie.Need-returns-5
 unfolding firstFailing contentChecks
@@ -83,6 +88,14 @@ returns-6 c = decided (c .before .before) _ (c .enum-told2 .given .1)
 returns-7 : tie.Need-returns-7
 unfolding firstFailing contentChecks
 returns-7 c = decided (c .before .before) _ (c .enum-told3 .given .1)
+
+returns-8 : tie.Need-returns-8
+unfolding firstFailing contentChecks
+returns-8 c = decided (c .before .before) _ (c .enum-told4 .given .1)
+
+returns-9 : tie.Need-returns-9
+unfolding firstFailing contentChecks
+returns-9 c = decided (c .before .before) _ (c .enum-told5 .given .1)
 
 pub value-admission-spec : {M : Type 1} → statement M
 value-admission-spec =
@@ -98,6 +111,10 @@ value-admission-spec =
     (λ c. search needs)
     (λ c. search needs)
     (λ c. search needs)
+    (λ c. search needs)
+    (λ c. search needs)
     returns-5
     returns-6
-    returns-7)
+    returns-7
+    returns-8
+    returns-9)

@@ -15,7 +15,7 @@ use Rattle.item_range.specs.Range.{within}
 use Rattle.item.specs.Content.{contentIsAllowed}
 use Rattle.item.specs.Table.{itemOf, hasLength}
 use Rattle.item.specs.declared.content.Content.{Content}
-use Rattle.item.specs.declared.content.Content.the-variants.{Allowed, NotDecimal, OutOfRange}
+use Rattle.item.specs.declared.content.Content.the-variants.{Allowed, NotWritable, WrongLength, NotDecimal, OutOfRange}
 use Rattle.item.specs.declared.table.Item.{Item}
 use Rattle.item.specs.declared.table.Lookup.the-variants.{Listed}
 use Rattle.item.proofs.content.Content.{the-type}
@@ -126,8 +126,11 @@ content-test c =
     let i = item-of (writable-of (key-of (authority-of (c .before)))) in
     rw (listed i, ← part-to-end (payload (parse-of i)) 12) (ap contentIsAllowed (sym (c .content-of .ensures)))
 
-not-allowed : (content : Content) → OneOf (1 ∷ 2 ∷ []) (tagOf the-type content) → contentIsAllowed content ≡ false
-not-allowed Allowed h = absurd (⊎-elim (λ e. omega arith) (λ e. omega arith) h)
+not-allowed : (content : Content) → OneOf (1 ∷ 2 ∷ 3 ∷ 4 ∷ []) (tagOf the-type content) → contentIsAllowed content ≡ false
+not-allowed Allowed h =
+    absurd (⊎-elim (λ e. omega arith) (λ k. ⊎-elim (λ e. omega arith) (λ l. ⊎-elim (λ e. omega arith) (λ e. omega arith) l) k) h)
+not-allowed NotWritable h = refl
+not-allowed WrongLength h = refl
 not-allowed (NotDecimal i) h = refl
 not-allowed OutOfRange h = refl
 
