@@ -1,13 +1,11 @@
 -- Document 01's table of data identifiers in its own figures, and that the table lists exactly these.
 use Prim.Native.Nat.{ℕ, _+_, _*_, _/_, _%_, _≤_}
-use mathlib.Core.Path.{_≡_, refl, sym, _∙_}
-use mathlib.Core.Bool.{true, false}
+use mathlib.Core.Path.{_≡_, refl, _∙_}
 use mathlib.Core.Logic.{_↔_}
 use native.Mathlib.Nat.{div-div-eq-div-mul}
 use native.Mathlib.Omega.{arith}
 use lib.Dec.{leb, eqb}
-use borrow.Author.Tests.{leb-true, le-leb, eqb-true, eq-eqb}
-use Rattle.laws.specs.Test.{pick}
+use borrow.Author.Tests.{leb-true, le-leb, eqb-true}
 use Rattle.laws.specs.TestLaws.{pick-cases}
 use Rattle.item.specs.Table.{readOnly, writableItem, readings, energyItem, otherRows, found, itemOf}
 use Rattle.item.specs.TableLaws.{InRows, OfLookup, found-rule}

@@ -8,7 +8,7 @@ use Rattle.item_command.specs.Command.{commandOf, controlFor}
 use Rattle.item_command.specs.CommandLaws.{command-known, asks, Asks, known, unknown, same-control}
 use Rattle.item_command.specs.Reply.{controlCode, replyTo}
 use Rattle.item_command.specs.declared.Asked.{Asked}
-use Rattle.item_command.specs.declared.Asked.the-variants.{Known, Unknown}
+use Rattle.item_command.specs.declared.Asked.the-variants.{Known}
 use Rattle.item_command.specs.declared.Command.{Command}
 use Rattle.item_command.specs.declared.Command.the-variants.{ReadData, ReadAddress, WriteData, WriteAddress, ChangePassword}
 

@@ -2,7 +2,7 @@
 use mathlib.Core.Path.{_≡_, sym, _∙_, ap}
 use mathlib.Core.List.{List, [], _∷_}
 use mathlib.Core.Bool.{true≢false}
-use mathlib.Core.Logic.{_↔_, _⊎_, inl, inr}
+use mathlib.Core.Logic.{_↔_, inl, inr}
 use Rattle.laws.specs.TestLaws.{pick-cases}
 use Rattle.laws.specs.Checks.{Check, firstFailing}
 use Rattle.laws.specs.ChecksLaws.{AllHold, all-pass}

@@ -1,5 +1,5 @@
 -- An accepted 15 sets the address and nothing else, an accepted 18 one password and nothing else; what is not accepted moves nothing.
-use Prim.Native.Nat.{ℕ, _+_, _*_, _≤_, _<_}
+use Prim.Native.Nat.{ℕ, _+_, _*_, _≤_}
 use mathlib.Core.Path.{_≡_, refl, sym, subst, _∙_}
 use mathlib.Core.List.{List, [], _∷_}
 use mathlib.Core.Bool.{Bool, true, false, true≢false}
@@ -7,28 +7,23 @@ use native.Mathlib.Omega.{arith}
 use lib.ListN.{length}
 use lib.Dec.{leb}
 use borrow.Author.Tests.{leb-true, leb-false}
-use Rattle.laws.specs.Part.{withPart}
 use Rattle.laws.specs.PartLaws.{part-length, Apart, before, behind, put-back, put-apart}
-use Rattle.laws.specs.ChecksLaws.{AllHold}
 use Rattle.frame.specs.Frame.{controlOf, dataOf}
-use Rattle.item_command.specs.Command.{controlFor}
 use Rattle.item_command.specs.CommandLaws.{same-control}
-use Rattle.item_command.specs.ControlWords.{IsControl, control-figure, normalFigure, normal-figure, normal-only}
-use Rattle.item_command.specs.Reply.{replyTo}
+use Rattle.item_command.specs.ControlWords.{control-figure, normal-only}
 use Rattle.item_command.specs.declared.Command.{Command}
 use Rattle.item_command.specs.declared.Command.the-variants.{ReadData, ReadAddress, WriteData, WriteAddress, ChangePassword}
 use Rattle.energy.specs.Energies.{Rows}
-use Rattle.meter_decision.specs.Decision.{passwordAt, checksOf}
+use Rattle.meter_decision.specs.Decision.{passwordAt}
 use Rattle.meter_decision.specs.Request.{itemAsked, writtenValue, newLevelOf, newPasswordOf}
 use Rattle.meter.specs.Meter.{MeterSized, untouched}
 use Rattle.meter.specs.MeterLaws.{AllKept, untouched-keeps, untouched-sized}
 use Rattle.meter.specs.MeterAfterLaws.{only-registers-of, sized-after, address-kept}
-use Rattle.meter.specs.Answer.{replyData, meterAfter, delivered, answered, Unmoved}
+use Rattle.meter.specs.Answer.{replyData, meterAfter, delivered}
 use Rattle.meter.specs.AnswerLaws.{Answers, refuses, errs, carries, answers, not-replied, reply-control}
 use Rattle.meter.specs.FrameTerms.{EveryCheckHolds, AddressSet, PasswordSet, AsItWas, NotAccepted}
 use Rattle.meter.specs.PutToLaws.{put-to, holds-row, normally}
 use Rattle.meter.specs.declared.Meter.{Meter}
-use Rattle.meter.specs.declared.FrameAnswer.the-variants.{Replied}
 
 -- Only 14 changes registers and the operator code, and only 18 a password.
 registers-kept : (command : Command) (payload : List ℕ) (m : Meter) → (command ≡ WriteData → ⊥)

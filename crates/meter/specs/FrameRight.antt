@@ -1,27 +1,25 @@
 -- Any bytes put to a meter come to what document 01 says, in words.
-use Prim.Native.Nat.{ℕ, _≤_, _<_}
-use mathlib.Core.Path.{_≡_, refl, sym, ap, _∙_}
+use Prim.Native.Nat.{ℕ}
+use mathlib.Core.Path.{_≡_, refl}
 use mathlib.Core.List.{List}
 use mathlib.Core.Bool.{Bool, true, false}
 use native.Mathlib.Omega.{arith}
 use lib.ListN.{length}
 use lib.Dec.{leb}
 use borrow.Author.Tests.{leb-true, le-leb}
-use Rattle.frame.specs.Frame.{Frame, addressOf, controlOf, dataOf}
+use Rattle.frame.specs.Frame.{controlOf}
 use Rattle.frame.specs.Recognition.{exactlyOne}
 use Rattle.frame.specs.RecognitionLaws.{one-frame}
-use Rattle.item_command.specs.Addressee.{IsFor}
-use Rattle.item_command.specs.ControlWords.{IsControl, control-figure}
-use Rattle.item_command.specs.declared.Command.{Command}
+use Rattle.item_command.specs.ControlWords.{control-figure}
 use Rattle.item_command.specs.declared.Command.the-variants.{ReadData, ReadAddress}
 use Rattle.energy.specs.Energies.{Rows}
 use Rattle.meter_holding.specs.Holding.{valueFor}
 use Rattle.meter_decision.specs.Request.{itemAsked}
-use Rattle.meter.specs.Meter.{MeterSized, untouched, withinRanges}
+use Rattle.meter.specs.Meter.{MeterSized, withinRanges}
 use Rattle.meter.specs.MeterLaws.{untouched-keeps}
 use Rattle.meter.specs.Ranges.{InRanges, within-ranges}
-use Rattle.meter.specs.Answer.{replyData, meterAfter, refused, answered}
-use Rattle.meter.specs.FrameTerms.{EveryCheckHolds, RepliesWith, FrameIsRight}
+use Rattle.meter.specs.Answer.{replyData, meterAfter, answered}
+use Rattle.meter.specs.FrameTerms.{FrameIsRight}
 use Rattle.meter.specs.PutToLaws.{normally, error-replied, kept-silent}
 use Rattle.meter.specs.Silence.{foreign-silent}
 use Rattle.meter.specs.Writes.{accepted-write}

@@ -3,7 +3,7 @@ use Prim.Native.Nat.{ℕ, _+_, _≤_, _<_}
 use mathlib.Core.Path.{_≡_}
 use mathlib.Core.List.{List, [], _∷_, _++_}
 use lib.ListN.{length, take}
-use Rattle.laws.specs.Memory.{Outcome, outcome, over}
+use Rattle.laws.specs.Memory.{outcome, over}
 use Rattle.laws.specs.Words.{Every, FirstFails}
 use Rattle.frame.specs.Frame.{Frame, addressOf, controlOf, dataOf, frameFor}
 use Rattle.item_command.specs.Addressee.{IsFor}
@@ -22,7 +22,6 @@ use Rattle.meter_holding.specs.Holding.{valueFor}
 use Rattle.meter.specs.Meter.{valueHeld, untouched}
 use Rattle.meter.specs.Ranges.{InRanges}
 use Rattle.meter.specs.Answer.{answeredWith, refused, answered, Unmoved}
-use Rattle.meter.specs.declared.Answered.{Answered}
 use Rattle.meter.specs.declared.FrameAnswer.the-variants.{Replied}
 use Rattle.meter.specs.declared.Meter.{Meter}
 

@@ -1,6 +1,6 @@
 -- Document 01: a fresh meter, from an address, in words.
 use Prim.Native.Nat.{ℕ}
-use mathlib.Core.Path.{_≡_, refl, ap}
+use mathlib.Core.Path.{_≡_, refl}
 use mathlib.Core.List.{List, []}
 use mathlib.Core.Bool.{Bool, true, false}
 use lib.ListN.{replicate, getD}
@@ -17,7 +17,6 @@ use Rattle.meter_holding.specs.Holding.{valueFor}
 use Rattle.meter_holding.specs.FreshWords.{FreshHolds, fresh-holds}
 use Rattle.meter.specs.Host.{created}
 use Rattle.meter.specs.Meter.{freshMeter}
-use Rattle.meter.specs.declared.Created.{Created}
 
 -- Every reading is zero.
 abbrev pub ReadsZero : Rows → Type 0

@@ -1,22 +1,18 @@
 -- What a frame put to a meter comes to, by the checks in words: the normal reply where every check of the row holds, and else what the
 -- first failing one answers with.
-use Prim.Native.Nat.{ℕ, _+_}
-use mathlib.Core.Path.{_≡_, sym, ap, _∙_}
+use Prim.Native.Nat.{ℕ}
+use mathlib.Core.Path.{_≡_, ap, _∙_}
 use mathlib.Core.List.{List, [], _∷_}
-use mathlib.Core.Bool.{true, false}
-use native.Mathlib.Omega.{arith}
-use lib.ListN.{length}
+use mathlib.Core.Bool.{false}
 use Rattle.laws.specs.ChecksLaws.{AllHold}
-use Rattle.laws.specs.Memory.{outcome, over}
 use Rattle.laws.specs.Checks.{Check}
 use Rattle.laws.specs.Words.{Words, Say}
 use Rattle.laws.specs.WordsLaws.{all-every, first-answers}
-use Rattle.frame.specs.Frame.{Frame, addressOf, controlOf, dataOf, frameFor}
+use Rattle.frame.specs.Frame.{addressOf, controlOf, dataOf}
 use Rattle.frame.specs.FrameLaws.{address-six}
-use Rattle.item_command.specs.Addressee.{IsFor, addressed}
 use Rattle.item_command.specs.AddresseeLaws.{for-iff}
 use Rattle.item_command.specs.Command.{controlFor}
-use Rattle.item_command.specs.ControlWords.{IsControl, control-figure, normalFigure, normal-figure, errorFigure, error-figure}
+use Rattle.item_command.specs.ControlWords.{control-figure, normalFigure, normal-figure, errorFigure, error-figure}
 use Rattle.item_command.specs.Reply.{replyTo}
 use Rattle.item_command.specs.declared.Command.{Command}
 use Rattle.energy.specs.Energies.{Rows}
@@ -25,11 +21,10 @@ use Rattle.meter_decision.specs.DecisionWords.{wordsOf}
 use Rattle.meter_decision.specs.DecisionWordsLaws.{checks-say}
 use Rattle.meter.specs.Meter.{MeterSized, untouched}
 use Rattle.meter.specs.MeterLaws.{untouched-keeps}
-use Rattle.meter.specs.Answer.{Treatment, replies, failed, replyData, meterAfter, carriedOut, answeredWith, refused, delivered, answered, valueAsked}
+use Rattle.meter.specs.Answer.{Treatment, replies, failed, replyData, meterAfter, carriedOut, refused, delivered, answered, valueAsked}
 use Rattle.meter.specs.AnswerLaws.{data-bytes, Reaches, answered-carried, answered-normal}
 use Rattle.meter.specs.FrameTerms.{PutTo, Row, EveryCheckHolds, RowFails, RepliesWith}
 use Rattle.meter.specs.declared.Meter.{Meter}
-use Rattle.meter.specs.declared.FrameAnswer.the-variants.{Replied}
 
 module _ (bytes : List ℕ) (m : Meter) (forward reverse : Rows) (memory : List ℕ) (sized : MeterSized m) where
   -- The checks before the table's, as tests and in words.

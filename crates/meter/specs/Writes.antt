@@ -1,43 +1,39 @@
 -- An accepted 14 sets the one register that it names, and the operator code beside it; the value is read back.
-use Prim.Native.Nat.{ℕ, _+_, _≤_, _<_}
-use mathlib.Core.Path.{_≡_, refl, sym, ap, _∙_}
-use mathlib.Core.List.{List, [], _∷_, _++_, append-nil}
-use mathlib.Core.Bool.{Bool, true, false, true≢false}
+use Prim.Native.Nat.{ℕ, _+_, _≤_}
+use mathlib.Core.Path.{_≡_, refl, _∙_}
+use mathlib.Core.List.{List, [], _++_, append-nil}
 use native.Mathlib.Omega.{arith}
 use lib.ListN.{length, take, length-append}
 use lib.Seq.{length-take-le, take-all}
 use borrow.Author.Tests.{eq-eqb}
 use Rattle.laws.specs.AllLaws.{all-take}
 use Rattle.laws.specs.Memory.{outcome, over, IsByte, Bytes}
-use Rattle.frame.specs.Frame.{Frame, addressOf, controlOf, dataOf, frameFor}
+use Rattle.frame.specs.Frame.{addressOf, dataOf, frameFor}
 use Rattle.frame.specs.FrameLaws.{frame-for, address-back, control-back, data-back}
 use Rattle.laws.specs.ChecksLaws.{AllHold}
 use Rattle.item_command.specs.Reply.{controlCode, replyTo}
-use Rattle.item_same.specs.SameLaws.{same-equal, same-refl, equal-same}
+use Rattle.item_same.specs.SameLaws.{same-refl}
 use Rattle.item.specs.Table.{itemOf}
 use Rattle.item.specs.declared.table.Item.{Item}
 use Rattle.item.specs.declared.table.Lookup.the-variants.{Listed}
 use Rattle.energy.specs.Energies.{Rows}
 use Rattle.meter.specs.Meter.{MeterSized, valueHeld, untouched}
 use Rattle.meter_decision.specs.Decision.{checksOf}
-use Rattle.meter.specs.MeterLaws.{value-length, value-back, value-other, untouched-keeps, untouched-sized}
+use Rattle.meter.specs.MeterLaws.{value-length, value-back, value-other, untouched-keeps}
 use Rattle.meter.specs.Ranges.{InRanges}
-use Rattle.meter_decision.specs.Request.{itemAsked, operatorOf, writtenValue}
+use Rattle.meter_decision.specs.Request.{itemAsked, writtenValue}
 use Rattle.item_identifier.specs.Identifier.{identifierOf}
 use Rattle.item_identifier.specs.IdentifierLaws.{identifier-take}
-use Rattle.item_command.specs.Command.{controlFor}
 use Rattle.item_command.specs.Addressee.{namesMeter, addressed}
-use Rattle.meter.specs.Answer.{replyData, meterAfter, answeredWith, delivered, answered, Unmoved}
+use Rattle.meter.specs.Answer.{replyData, meterAfter, answeredWith, delivered, answered}
 use Rattle.meter_decision.specs.DecisionLaws.{WriteHolds, write-row}
 use Rattle.meter.specs.FrameTerms.{EveryCheckHolds, ValueSet}
 use Rattle.meter.specs.PutToLaws.{row-holds, normally}
-use Rattle.item_command.specs.CommandLaws.{same-control}
 use Rattle.meter.specs.MeterAfterLaws.{only-registers-of, sized-after, ranges-after, address-kept}
-use Rattle.meter.specs.AnswerLaws.{data-bytes, Reaches, answered-normal, not-replied, reply-control, Answers, refuses, errs, carries, answers}
+use Rattle.meter.specs.AnswerLaws.{data-bytes, answered-normal}
 use Rattle.meter.specs.declared.Meter.{Meter}
 use Rattle.meter.specs.declared.FrameAnswer.the-variants.{Replied}
-use Rattle.item_command.specs.declared.Command.{Command}
-use Rattle.item_command.specs.declared.Command.the-variants.{ReadData, ReadAddress, WriteData, WriteAddress, ChangePassword}
+use Rattle.item_command.specs.declared.Command.the-variants.{ReadData, WriteData}
 
 -- A read of a listed item by the meter's own address gives its value.
 read-value : (identifier own value : List ℕ) (item : Item) (m : Meter) (forward reverse : Rows) (memory : List ℕ) → Bytes identifier

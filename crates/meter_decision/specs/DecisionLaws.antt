@@ -2,32 +2,24 @@
 use Prim.Native.Nat.{ℕ, _≤_}
 use mathlib.Core.Path.{_≡_, refl}
 use mathlib.Core.List.{List}
-use mathlib.Core.Bool.{Bool, true, false, false≢true, and-eq-true-iff}
+use mathlib.Core.Bool.{Bool, true, false}
 use lib.ListN.{length}
-use lib.Dec.{leb}
-use borrow.Author.Tests.{leb-true, le-leb, eqb-true, eq-eqb}
 use Rattle.laws.specs.ChecksLaws.{AllHold, EachFailure, pass-or-any}
 use Rattle.laws.specs.Words.{Every}
+use Rattle.laws.specs.WordsLaws.{all-every}
 use Rattle.frame.specs.Refusals.{silentByRule}
 use Rattle.item_decimal.specs.Decimal.{Decimal}
-use Rattle.item_same.specs.Same.{same}
-use Rattle.item_same.specs.SameLaws.{same-equal, equal-same}
 use Rattle.item_identifier.specs.Identifier.{identifierOf}
 use Rattle.item_command.specs.declared.Command.{Command}
 use Rattle.item_command.specs.declared.Command.the-variants.{ReadData, ReadAddress, WriteData, WriteAddress, ChangePassword}
-use Rattle.item_range.specs.Range.{within}
-use Rattle.item_range.specs.RangeLaws.{within-iff}
-use Rattle.item.specs.Content.{contentIsAllowed}
-use Rattle.item.specs.ContentLaws.{Range, content-allowed}
-use Rattle.item.specs.Table.{itemOf, hasLength}
-use Rattle.item.specs.declared.content.Content.{Content}
-use Rattle.item.specs.declared.content.Content.the-variants.{Allowed, NotWritable, WrongLength, NotDecimal, OutOfRange}
+use Rattle.item.specs.ContentLaws.{Range}
+use Rattle.item.specs.Table.{itemOf}
 use Rattle.item.specs.declared.table.Item.{Item}
-use Rattle.item.specs.declared.table.Lookup.{Lookup}
-use Rattle.item.specs.declared.table.Lookup.the-variants.{Listed, NotListed}
-use Rattle.meter_decision.specs.Request.{itemAsked, levelOf, passwordOf, writtenValue, newLevelOf}
-use Rattle.meter_decision.specs.Decision.{Failure, errorByte, silence, passwordAt, isListed, isWritable, hasContent, authorised, checksOf, failing, accepted, decided}
+use Rattle.item.specs.declared.table.Lookup.the-variants.{Listed}
+use Rattle.meter_decision.specs.Request.{levelOf, passwordOf, writtenValue, newLevelOf}
+use Rattle.meter_decision.specs.Decision.{Failure, errorByte, silence, passwordAt, checksOf, failing, accepted, decided}
 use Rattle.meter_decision.specs.DecisionWords.{wordsOf}
+use Rattle.meter_decision.specs.DecisionWordsLaws.{write-says}
 use Rattle.meter_decision.specs.declared.Decision.{Decision}
 use Rattle.meter_decision.specs.declared.Decision.the-variants.{Silent, Error, Read, OwnAddress, Write, NewAddress, NewPassword}
 
@@ -120,52 +112,9 @@ module _ (payload : List ℕ) (key : Bool) (passwords : List ℕ) where
   row-write w =
       ((w .least, w .most), ((w .item, w .listed), (w .writable, (w .key-on, ((w .level, w .password), (w .data-length, ((w .decimal, w .range), tt)))))))
 
--- The test of a content holds only of what is allowed.
-allowed : (c : Content) → contentIsAllowed c ≡ true → c ≡ Allowed
-allowed Allowed h = refl
-allowed NotWritable h = absurd (false≢true h)
-allowed WrongLength h = absurd (false≢true h)
-allowed (NotDecimal i) h = absurd (false≢true h)
-allowed OutOfRange h = absurd (false≢true h)
-
+-- They hold exactly where every check of 14 does.
 module _ (payload : List ℕ) (key : Bool) (passwords : List ℕ) where
   pub write-holds : AllHold (checksOf WriteData payload key passwords) → WriteHolds payload key passwords
-  unfolding checksOf itemAsked authorised
-  write-holds h = go (itemAsked payload) refl (h .1 .1 .0) (h .1 .1 .1 .1 .1 .0) (h .1 .1 .1 .1 .1 .1 .0)
-    where
-      lengths : (12 ≤ length payload) × (length payload ≤ 50)
-      lengths = within-iff 12 50 _ .0 (h .0)
-
-      right : (leb (levelOf payload) 4 ≡ true) × (same (passwordOf payload) (passwordAt (levelOf payload) passwords) ≡ true)
-      right = and-eq-true-iff _ _ .0 (h .1 .1 .1 .1 .0)
-
-      go : (l : Lookup) → itemAsked payload ≡ l → isWritable l ≡ true → hasLength l (length (writtenValue payload)) ≡ true
-          → hasContent l (writtenValue payload) ≡ true → WriteHolds payload key passwords
-      go NotListed e w n c = absurd (false≢true w)
-      go (Listed item) e w n c =
-          let content = content-allowed item (writtenValue payload) .0 (allowed _ c) in
-          record {
-            least = lengths .0;
-            most = lengths .1;
-            item = item;
-            listed = e;
-            writable = w;
-            key-on = h .1 .1 .1 .0;
-            level = leb-true _ _ (right .0);
-            password = same-equal _ _ (right .1);
-            data-length = eqb-true _ _ n;
-            decimal = content .2;
-            range = content .3;
-          }
-
-  pub holds-write : WriteHolds payload key passwords → AllHold (checksOf WriteData payload key passwords)
-  unfolding checksOf itemAsked authorised
-  holds-write w =
-      let size : within 12 50 (length payload) ≡ true = within-iff 12 50 _ .1 (w .least, w .most) in
-      let found : isListed (itemAsked payload) ≡ true = rw (w .listed) in
-      let writable : isWritable (itemAsked payload) ≡ true = rw (w .listed) (w .writable) in
-      let right : authorised 4 (levelOf payload) (passwordOf payload) passwords ≡ true = rw (le-leb _ _ (w .level)) (equal-same _ _ (w .password)) in
-      let long : hasLength (itemAsked payload) (length (writtenValue payload)) ≡ true = rw (w .listed) (eq-eqb _ _ (w .data-length)) in
-      let content : hasContent (itemAsked payload) (writtenValue payload) ≡ true =
-      rw (w .listed, content-allowed (w .item) (writtenValue payload) .1 (w .writable, w .data-length, w .decimal, w .range)) in
-      (size, (found, (writable, (w .key-on, (right, (long, (content, tt)))))))
+  write-holds h =
+      write-row payload key passwords
+      (all-every (checksOf WriteData payload key passwords) (wordsOf WriteData payload key passwords) (write-says payload key passwords) .0 h)

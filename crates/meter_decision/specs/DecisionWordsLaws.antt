@@ -1,39 +1,36 @@
 -- The checks of each control say document 01's words, so that a decision is a failure exactly where its words are the first that do not
 -- hold, and the command is carried out exactly where every one holds.
-use Prim.Native.Nat.{ℕ, _+_, _*_, _≤_, _<_}
+use Prim.Native.Nat.{ℕ, _+_, _*_, _≤_}
 use mathlib.Core.Path.{_≡_, refl, sym, _∙_, ap}
 use mathlib.Core.List.{List, [], _∷_}
 use mathlib.Core.Bool.{Bool, true, false, false≢true, and-eq-true-iff}
 use mathlib.Core.Logic.{_↔_, Iff·rfl}
 use native.Mathlib.Omega.{arith}
-use lib.ListN.{length, take, getD}
-use lib.Dec.{leb, eqb}
+use lib.ListN.{length, take}
+use lib.Dec.{eqb}
 use borrow.Author.Tests.{leb-true, le-leb, eqb-true, eq-eqb}
 use Rattle.laws.specs.Memory.{Bytes}
 use Rattle.laws.specs.Words.{Every, FirstFails, Say}
 use Rattle.laws.specs.WordsLaws.{passed-iff, failed-iff}
-use Rattle.item_address.specs.Address.{Good, isGood}
 use Rattle.item_address.specs.AddressLaws.{good, is-good}
 use Rattle.item_command.specs.declared.Command.{Command}
 use Rattle.item_command.specs.declared.Command.the-variants.{ReadData, ReadAddress, WriteData, WriteAddress, ChangePassword}
-use Rattle.item_decimal.specs.Decimal.{Decimal, allDecimal}
+use Rattle.item_decimal.specs.Decimal.{Decimal}
 use Rattle.item_decimal.specs.DecimalLaws.{all-decimal, decimal-all}
 use Rattle.item_identifier.specs.Identifier.{identifierOf}
 use Rattle.item_identifier.specs.IdentifierLaws.{identifier-iff}
 use Rattle.item_same.specs.Same.{same}
 use Rattle.item_same.specs.SameLaws.{same-equal, equal-same}
-use Rattle.item_range.specs.Range.{within}
 use Rattle.item_range.specs.RangeLaws.{within-iff}
 use Rattle.item.specs.Content.{contentIsAllowed}
 use Rattle.item.specs.ContentLaws.{Range, content-allowed}
 use Rattle.item.specs.declared.content.Content.{Content}
-use Rattle.item.specs.declared.content.Content.the-variants.{Allowed, NotDecimal, OutOfRange}
+use Rattle.item.specs.declared.content.Content.the-variants.{Allowed, NotWritable, WrongLength, NotDecimal, OutOfRange}
 use Rattle.item.specs.Table.{itemOf, hasLength}
-use Rattle.item.specs.declared.table.Item.{Item}
 use Rattle.item.specs.declared.table.Lookup.{Lookup}
 use Rattle.item.specs.declared.table.Lookup.the-variants.{Listed, NotListed}
-use Rattle.meter_decision.specs.Request.{itemAsked, levelOf, passwordOf, writtenValue, newLevelOf, newPasswordOf}
-use Rattle.meter_decision.specs.Decision.{Failure, errorByte, silence, passwordAt, isListed, isWritable, hasContent, authorised, namesPassword, checksOf, failing, accepted, decided}
+use Rattle.meter_decision.specs.Request.{itemAsked, levelOf, passwordOf, writtenValue, newLevelOf}
+use Rattle.meter_decision.specs.Decision.{Failure, errorByte, silence, isListed, isWritable, hasContent, authorised, namesPassword, checksOf, failing, accepted, decided}
 use Rattle.meter_decision.specs.DecisionWords.{NamesItem, NamesPassword, RightPassword, wordsOf}
 use Rattle.meter_decision.specs.declared.Decision.{Decision}
 use Rattle.meter_decision.specs.declared.Decision.the-variants as decision
@@ -45,6 +42,8 @@ eqb-iff a b = (eqb-true a b, eq-eqb a b)
 -- The test of a content holds only of what is allowed.
 allowed : (c : Content) → contentIsAllowed c ≡ true → c ≡ Allowed
 allowed Allowed h = refl
+allowed NotWritable h = absurd (false≢true h)
+allowed WrongLength h = absurd (false≢true h)
 allowed (NotDecimal i) h = absurd (false≢true h)
 allowed OutOfRange h = absurd (false≢true h)
 
@@ -72,8 +71,8 @@ module _ (payload : List ℕ) where
         → (hasContent (itemAsked payload) (writtenValue payload) ≡ true) ↔ (Decimal (writtenValue payload) × Range (named .0 .kind) (writtenValue payload))
     unfolding itemAsked
     is-allowed writable long = rw (named .1) (
-      λ h. content-allowed (named .0 .kind) (writtenValue payload) .0 (allowed _ h),
-      λ right. rw (content-allowed (named .0 .kind) (writtenValue payload) .1 right),
+      λ h. let content = content-allowed (named .0) (writtenValue payload) .0 (allowed _ h) in (content .2, content .3),
+      λ right. rw (content-allowed (named .0) (writtenValue payload) .1 (writable, long, right .0, right .1)),
     )
 
   -- The level and its password.
@@ -103,15 +102,11 @@ module _ (payload : List ℕ) where
           ↔ (take 4 payload ≡ (newLevelOf payload + 1) ∷ 0x0C ∷ 0x00 ∷ 0x04 ∷ [])
       bytes-iff most = identifier-iff payload bytes (omega arith) (newLevelOf payload + 1) 0x0C 0x00 0x04 (omega arith)
 
--- The checks of each control say document 01's words.
-pub checks-say : (command : Command) (payload : List ℕ) (key : Bool) (passwords : List ℕ) → Bytes payload
-    → Say (checksOf command payload key passwords) (wordsOf command payload key passwords)
+-- The checks of 14 say document 01's words, whatever the data are.
+pub write-says : (payload : List ℕ) (key : Bool) (passwords : List ℕ)
+    → Say (checksOf WriteData payload key passwords) (wordsOf WriteData payload key passwords)
 unfolding checksOf
-checks-say ReadData payload key passwords bytes = (eqb-iff _ _, refl, λ _. (names-item payload, refl, λ _. tt))
-checks-say ReadAddress payload key passwords bytes = (eqb-iff _ _, refl, λ _. tt)
-checks-say WriteAddress payload key passwords bytes =
-    (eqb-iff _ _, refl, λ _. (Iff·rfl, refl, λ _. ((good payload, is-good payload), refl, λ _. tt)))
-checks-say WriteData payload key passwords bytes = (
+write-says payload key passwords = (
   within-iff 12 50 _,
   refl,
   λ _. (
@@ -128,6 +123,16 @@ checks-say WriteData payload key passwords bytes = (
     ),
   ),
 )
+
+-- The checks of each control say document 01's words.
+pub checks-say : (command : Command) (payload : List ℕ) (key : Bool) (passwords : List ℕ) → Bytes payload
+    → Say (checksOf command payload key passwords) (wordsOf command payload key passwords)
+unfolding checksOf
+checks-say ReadData payload key passwords bytes = (eqb-iff _ _, refl, λ _. (names-item payload, refl, λ _. tt))
+checks-say ReadAddress payload key passwords bytes = (eqb-iff _ _, refl, λ _. tt)
+checks-say WriteAddress payload key passwords bytes =
+    (eqb-iff _ _, refl, λ _. (Iff·rfl, refl, λ _. ((good payload, is-good payload), refl, λ _. tt)))
+checks-say WriteData payload key passwords bytes = write-says payload key passwords
 checks-say ChangePassword payload key passwords bytes = (
   eqb-iff _ _,
   refl,

@@ -1,15 +1,13 @@
 -- What a meter holds for each identifier of energies, in document 01's coordinates: the readings at row s and column t.
 use Prim.Native.Nat.{ℕ, _+_, _*_, _≤_}
-use mathlib.Core.Path.{_≡_, refl, ap, _∙_}
+use mathlib.Core.Path.{_≡_, refl}
 use mathlib.Core.List.{List, [], _∷_, map}
-use mathlib.Core.Bool.{true, false}
-use native.Mathlib.Omega.{arith}
 use lib.ListN.{length}
 use lib.Dec.{eqb}
 use Rattle.laws.specs.Test.{pick}
 use Rattle.item_decimal.specs.Decimal.{decoded}
 use Rattle.item.specs.Table.{itemOf, readOnly}
-use Rattle.item.specs.TableWords.{EnergyListed, one, all-t, all-s, InTable, forward, reverse, table-words}
+use Rattle.item.specs.TableWords.{EnergyListed, one, all-t, all-s, forward, reverse, table-words}
 use Rattle.item.specs.declared.table.Item.{Item}
 use Rattle.item.specs.declared.table.Kind.the-variants.{Energy}
 use Rattle.item.specs.declared.table.Lookup.the-variants.{Listed}
