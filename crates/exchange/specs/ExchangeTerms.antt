@@ -1,16 +1,13 @@
 -- The terms in which demand 2 of the letter is stated, end to end: what an exchange of a request with a meter comes to.
-use Prim.Native.Nat.{ℕ, _*_, _≤_, _<_}
+use Prim.Native.Nat.{ℕ, _≤_, _<_}
 use mathlib.Core.Path.{_≡_}
 use mathlib.Core.List.{List, [], _∷_, _++_}
 use mathlib.Core.Bool.{true}
 use lib.ListN.{length}
-use lib.Dec.{eqb}
 use Rattle.frame.specs.Frame.{frameFor}
 use Rattle.laws.specs.Memory.{Bytes, over}
-use Rattle.laws.specs.Test.{pick}
 use Rattle.frame.specs.Refusals.{notForThisMeter}
 use Rattle.item.specs.Table.{itemOf}
-use Rattle.item.specs.declared.table.Kind.the-variants.{Energy}
 use Rattle.item.specs.declared.table.Item.{Item}
 use Rattle.item.specs.declared.table.Lookup.the-variants.{Listed}
 use Rattle.energy.specs.Energies.{Rows}
@@ -19,6 +16,7 @@ use Rattle.meter_decision.specs.Decision.{passwordAt}
 use Rattle.meter.specs.Ranges.{InRanges}
 use Rattle.meter.specs.Answer.{valueOf}
 use Rattle.item_command.specs.Addressee.{IsFor}
+use Rattle.meter_holding.specs.EnergiesWords.{GivesReadings}
 use Rattle.meter.specs.declared.Meter.{Meter}
 use Rattle.reader.specs.Allowed.{RequestSized, requestValue}
 use Rattle.reader.specs.Building.{sentTo, requestFrame, requestBytes}
@@ -29,8 +27,6 @@ use Rattle.reader_judgement.specs.declared.Action.the-variants.{ReadData, ReadA
 use Rattle.reader.specs.declared.Request.{Request}
 use Rattle.reader_judgement.specs.declared.Judgement.the-variants.{Value, Error}
 use Rattle.exchange.specs.Exchange.{Memories, memories, ExchangeOutcome, outcomeOf, exchangedWith, exchanged}
-use Rattle.item_decimal.specs.Decimal.{decoded}
-use Rattle.energy.specs.Decoded.{columnsNumbers}
 use Rattle.exchange.specs.declared.ExchangeAnswer.{ExchangeAnswer}
 use Rattle.exchange.specs.declared.ExchangeAnswer.the-variants.{Silent, Judged}
 
@@ -77,16 +73,14 @@ comesTo request after answer reply value lent =
     outcomeOf (exchangedWith after answer (length (requestFrame request)) (length reply))
     (memories (over (requestBytes request) (lent .sent)) (over (requestFrame request) (lent .heard)) (over reply (lent .reply)) (over value (lent .value)))
 
--- A read gives the reader exactly what the meter holds, and leaves the meter untouched; for energies this decodes to the numbers at the rows
--- and columns in document 01's order.
+-- A read gives the reader exactly what the meter holds, and leaves the meter untouched. For 00 01 t s, 00 01 FF s and 00 01 t FF these bytes
+-- decode to the forward readings at row s and column t, for 00 02 to the reverse ones.
 pub record ReadGives (request : Request) (m : Meter) (forward reverse : Rows) (lent : Memories) : Type 0 where
   pub outcome : let held = heldFor (request .action) (request .identifier) m forward reverse in
       exchanged request m forward reverse lent
       ≡ comesTo request (untouched m) (Judged (Value (length held))) (replyFrame (request .action) (request .identifier) (m .address) held) held lent
-  pub numbers : (item : Item) (direction rate rates row rows : ℕ) → request .action ≡ ReadData → itemOf (request .identifier) ≡ Listed item
-      → item .kind ≡ Energy direction rate rates row rows
-      → decoded (rates * rows) (heldFor (request .action) (request .identifier) m forward reverse)
-      ≡ columnsNumbers (pick (eqb direction 0) forward reverse) rate rates row rows
+  pub readings : let held = heldFor (request .action) (request .identifier) m forward reverse in request .action ≡ ReadData
+      → GivesReadings 0x00010000 forward (request .identifier) held × GivesReadings 0x00020000 reverse (request .identifier) held
 
 -- The checks of a write that an allowed request leaves open: key on, level at most 04, and the password of that level right.
 pub record Authorised (request : Request) (m : Meter) : Type 0 where

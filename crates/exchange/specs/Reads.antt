@@ -6,12 +6,10 @@ use mathlib.Core.List.{List, [], _++_}
 use mathlib.Core.Bool.{true}
 use native.Mathlib.Omega.{arith}
 use lib.ListN.{length}
-use lib.Dec.{eqb}
 use borrow.Author.Tests.{eq-eqb}
 use Rattle.frame.specs.Frame.{dataOf, frameFor}
 use Rattle.laws.specs.AllLaws.{all-append}
 use Rattle.laws.specs.Memory.{outcome, over, IsByte}
-use Rattle.laws.specs.Test.{pick}
 use Rattle.item_decimal.specs.Decimal.{Decimal}
 use Rattle.item_decimal.specs.DecimalLaws.{decimal-bytes}
 use Rattle.item_command.specs.Reply.{controlCode, replyTo}
@@ -22,10 +20,8 @@ use Rattle.meter.specs.Answer.{valueOf, replyData, meterAfter, answeredWith, de
 use Rattle.meter_decision.specs.Decision.{checksOf}
 use Rattle.meter.specs.AnswerLaws.{Reaches, answered-normal}
 use Rattle.meter.specs.Meter.{MeterSized, untouched}
-use Rattle.meter_holding.specs.Holding as holding
-use Rattle.meter_holding.specs.Holding.{locationOf, heldAt}
 use Rattle.meter.specs.MeterLaws.{value-length, untouched-keeps}
-use Rattle.meter.specs.Ranges.{InRanges, direction-in-range}
+use Rattle.meter.specs.Ranges.{InRanges}
 use Rattle.meter_decision.specs.Request.{itemAsked}
 use Rattle.item_identifier.specs.Identifier.{identifierOf, identifierBytes}
 use Rattle.item_command.specs.Addressee.{ReadFor, IsFor}
@@ -40,8 +36,9 @@ use Rattle.reader_judgement.specs.declared.Action.{Action}
 use Rattle.reader_judgement.specs.declared.Action.the-variants.{ReadData, ReadAddress, WriteData}
 use Rattle.reader_judgement.specs.declared.Judgement.the-variants.{Value}
 use Rattle.reader.specs.declared.Request.{Request}
+use Rattle.meter_holding.specs.Holding.{valueFor}
+use Rattle.meter_holding.specs.EnergiesWords.{readings-held}
 use Rattle.exchange.specs.Exchange.{Memories, exchanged}
-use Rattle.energy.specs.Decoded.{readings-decoded}
 use Rattle.exchange.specs.ExchangeTerms.{Typed, MeantFor, IsRead, heldFor, replyFrame, EnoughMemory, comesTo, ReadGives}
 use Rattle.exchange.specs.RequestFrameLaws.{request-data, replied-exchange}
 use Rattle.item_identifier.specs.IdentifierLaws.{identifier-back, identifier-are-bytes}
@@ -140,11 +137,10 @@ module _ (request : Request) (typed : Typed request) (allowed : isAllowed reques
   outcome-by WriteData e reads for-meter = absurd reads
 
   pub read-gives : IsRead (request .action) → MeantFor request m → ReadGives request m forward reverse lent
-  unfolding holding.valueHeld locationOf heldAt
+  unfolding valueFor
   read-gives reads for-meter =
       record {
         outcome = outcome-by (request .action) refl reads for-meter;
-        numbers =
-            λ item direction rate rates row rows e listed kind. rw (e, listed, kind)
-            (readings-decoded (pick (eqb direction 0) forward reverse) rate rates row rows (direction-in-range ranges (eqb direction 0)));
+        readings =
+            λ e. rw e (readings-held (request .identifier) (m .address) (m .registers) forward reverse (ranges .forward-readings) (ranges .reverse-readings));
       }

@@ -31,7 +31,6 @@ use Rattle.item_command.specs.AddresseeLaws.{for-iff}
 use Rattle.meter.specs.declared.Meter.{Meter}
 use Rattle.meter_holding.specs.declared.location.Location.{Location}
 use Rattle.meter_holding.specs.declared.location.Location.the-variants.{Readings, OwnAddress, Register}
-use Rattle.item_command.specs.declared.Command.the-variants as command
 use Rattle.reader.specs.Allowed.{isAllowed}
 use Rattle.reader.specs.Building.{sentTo, requestFrame}
 use Rattle.item_identifier.specs.Identifier.{identifierBytes}

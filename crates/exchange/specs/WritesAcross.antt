@@ -2,35 +2,33 @@
 -- what the request says, so that of the meter's checks only key, level and password are open; either reply is one that the reader takes.
 use Prim.Native.Nat.{ℕ, _+_, _≤_}
 use mathlib.Core.Path.{_≡_, refl, sym, ap, subst, _∙_}
-use mathlib.Core.List.{List, [], _∷_, _++_, append-assoc}
-use mathlib.Core.Bool.{true, and-eq-true-iff}
+use mathlib.Core.List.{List, [], _∷_}
+use mathlib.Core.Bool.{true}
 use native.Mathlib.Omega.{arith}
-use lib.ListN.{length, length-append}
-use lib.Seq.{length-take-le, take-at, drop-at}
-use borrow.Author.Tests.{leb-true, le-leb}
-use Rattle.frame.specs.Frame.{addressOf, controlOf, dataOf, frameFor}
-use Rattle.laws.specs.Memory.{outcome, over}
-use Rattle.laws.specs.TestLaws.{pick-cases}
+use lib.ListN.{length}
+use lib.Seq.{length-take-le}
+use Rattle.frame.specs.Frame.{addressOf, controlOf, dataOf}
+use Rattle.laws.specs.Memory.{outcome}
 use Rattle.laws.specs.Checks.{firstFailing}
-use Rattle.item_range.specs.Range.{within}
 use Rattle.item_command.specs.Reply.{controlCode, replyTo, notAuthorised}
-use Rattle.item_same.specs.SameLaws.{same-equal, equal-same}
+use Rattle.item_same.specs.SameLaws.{equal-same}
 use Rattle.item.specs.Table.{itemOf}
-use Rattle.item.specs.declared.table.Item.{Item}
 use Rattle.item.specs.declared.table.Lookup.the-variants.{Listed}
 use Rattle.energy.specs.Energies.{Rows}
 use Rattle.meter.specs.Meter.{MeterSized, untouched}
 use Rattle.meter.specs.Ranges.{InRanges}
-use Rattle.meter_decision.specs.Request.{itemAsked, levelOf, passwordOf, operatorOf, writtenValue}
+use Rattle.meter_decision.specs.Request.{levelOf, passwordOf, operatorOf, writtenValue}
 use Rattle.item_identifier.specs.Identifier.{identifierOf, identifierBytes}
-use Rattle.item_command.specs.Command.{commandOf, controlFor}
-use Rattle.item_command.specs.Addressee.{namesMeter, addressed}
-use Rattle.meter.specs.Answer.{Treatment, replies, valueAsked, carriedOut, treated, answeredWith, delivered, answered}
-use Rattle.meter_decision.specs.Decision.{authorised, checksOf}
-use Rattle.meter.specs.AnswerLaws.{answered-treated}
-use Rattle.meter.specs.Writes.{EveryCheckHolds, Accepted, accepted-write}
+use Rattle.item_command.specs.Command.{controlFor}
+use Rattle.meter_decision.specs.Decision.{authorised}
+use Rattle.meter.specs.FrameTerms.{PutTo, EveryCheckHolds, ValueSet, RepliesWith}
+use Rattle.meter.specs.PutToLaws.{error-replied}
+use Rattle.meter.specs.Writes.{accepted-write}
+use Rattle.meter_decision.specs.RequestWords.{WriteParts, write-parts}
+use Rattle.meter_decision.specs.DecisionWords.{RightPassword}
+use Rattle.meter_decision.specs.DecisionWordsLaws.{unauthorised-fails}
+use Rattle.meter_decision.specs.DecisionLaws.{row-write}
 use Rattle.meter.specs.declared.Meter.{Meter}
-use Rattle.meter.specs.declared.FrameAnswer.the-variants.{Replied}
 use Rattle.item_command.specs.declared.Command.the-variants as command
 use Rattle.reader.specs.Allowed.{requestValue, isAllowed}
 use Rattle.reader.specs.AllowedWords.{AllowedWrite, written-few, admitted-write}
@@ -46,7 +44,6 @@ use Rattle.exchange.specs.ExchangeTerms.{Typed, MeantFor, replyFrame, En
 use Rattle.exchange.specs.RequestFrameLaws.{request-frame, request-address, request-control, request-data, replied-exchange}
 use Rattle.item_identifier.specs.IdentifierLaws.{identifier-back}
 use Rattle.exchange.specs.declared.ExchangeAnswer.the-variants.{Judged}
-use Rattle.meter.specs.MeterLaws.{untouched-keeps}
 
 -- What a meter reads off the data of a write is what the request says.
 record ReadsOff (request : Request) (payload : List ℕ) : Type 0 where
@@ -59,40 +56,20 @@ record ReadsOff (request : Request) (payload : List ℕ) : Type 0 where
   count : length (requestValue request) ≡ request .count
 
 reads-off : (request : Request) → Typed request → request .count ≤ 38 → ReadsOff request (sentData WriteData request)
-unfolding sentData identifierBytes levelOf passwordOf operatorOf writtenValue requestValue
+unfolding sentData identifierBytes requestValue
 reads-off request typed few =
     record {
       size = write-length request (typed .sized .password) (typed .sized .operator) (omega (arith, typed .sized .value));
       identifier = identifier-back (request .identifier) _ (typed .identifier);
-      level = refl;
-      password = take-at (request .password) _ 3 (typed .sized .password);
-      operator =
-          rw (drop-at (request .password) (request .operator ++ requestValue request) 3 (typed .sized .password))
-          (take-at (request .operator) _ 4 (typed .sized .operator));
-      value = rw (← append-assoc) (drop-at (request .password ++ request .operator) (requestValue request) 7 seven);
-      count = count;
+      level = parts .level-read;
+      password = parts .password-read;
+      operator = parts .operator-read;
+      value = parts .value-read;
+      count = length-take-le (request .count) (request .value) (omega (arith, typed .sized .value));
     }
   where
-    count : length (requestValue request) ≡ request .count
-    count = length-take-le (request .count) (request .value) (omega (arith, typed .sized .value))
-
-    seven : length (request .password ++ request .operator) ≡ 7
-    seven = rw (length-append, typed .sized .password, typed .sized .operator)
-
--- A write of a writable item, of a length that a write has, is answered by error byte 04 where key or authority is missing.
-unauthorised-write : (payload : List ℕ) (item : Item) (m : Meter) (held : List ℕ) → 12 ≤ length payload → length payload ≤ 50
-    → itemOf (identifierOf payload) ≡ Listed item → item .writable ≡ true
-    → (m .key ≡ true → authorised 4 (levelOf payload) (passwordOf payload) (m .passwords) ≡ true → ⊥)
-    → carriedOut command.WriteData payload m held ≡ replies 0xD4 (notAuthorised ∷ []) (untouched m)
-unfolding carriedOut firstFailing checksOf within itemAsked replyTo controlCode
-unauthorised-write payload item m held least most listed writable missing =
-    rw (le-leb 12 (length payload) least, le-leb (length payload) 50 most, listed, writable)
-    (pick-cases P (m .key)
-    (λ k. pick-cases P (authorised 4 (levelOf payload) (passwordOf payload) (m .passwords)) (λ a. absurd (missing k a)) (λ _. refl))
-    (λ _. refl))
-  where
-    P : Treatment → Type 0
-    P t = t ≡ replies 0xD4 (notAuthorised ∷ []) (untouched m)
+    parts : WriteParts (sentData WriteData request) (request .level) (request .password) (request .operator) (requestValue request)
+    parts = write-parts _ _ _ _ (request .level) (request .password) (typed .sized .password) (request .operator) (requestValue request) (typed .sized .operator)
 
 module _ (request : Request) (typed : Typed request) (allowed : isAllowed request ≡ true) (m : Meter) (forward reverse : Rows) (sized : MeterSized m)
     (ranges : InRanges m forward reverse) (lent : Memories) (room : EnoughMemory lent) where
@@ -129,19 +106,30 @@ module _ (request : Request) (typed : Typed request) (allowed : isAllowed reques
     unfolding answersFrom
     from-own = rw writes (equal-same (m .address) (request .address) (sym own))
 
-    -- An authorised write meets every check of the meter.
-    every-check : Authorised request m → EveryCheckHolds (requestFrame request) m forward reverse (lent .reply)
-    every-check authorised =
+    -- Its frame is put to the meter, and the lengths of its data and its item are right.
+    frame-put : PutTo (requestFrame request) m forward reverse (lent .reply) command.WriteData
+    frame-put =
         record {
           ranges = ranges;
           room = room .reply;
           one-frame = request-frame request typed allowed;
           control = frame-control;
           address = frame-address;
+        }
+
+    frame-lengths : (12 ≤ length (dataOf (requestFrame request))) × (length (dataOf (requestFrame request)) ≤ 50)
+    frame-lengths = (omega (arith, frame-reads .size), omega (arith, frame-reads .size, few))
+
+    -- An authorised write meets every check of the meter.
+    every-check : Authorised request m → EveryCheckHolds (requestFrame request) m forward reverse (lent .reply) command.WriteData
+    every-check authorised =
+        record {
+          put-to = frame-put;
           row =
-              record {
-                least = omega (arith, frame-reads .size);
-                most = omega (arith, frame-reads .size, few);
+              row-write (dataOf (requestFrame request)) (m .key) (m .passwords)
+              (record {
+                least = frame-lengths .0;
+                most = frame-lengths .1;
                 item = admitted .item;
                 listed = frame-listed;
                 writable = admitted .writable;
@@ -151,25 +139,23 @@ module _ (request : Request) (typed : Typed request) (allowed : isAllowed reques
                 data-length = rw (frame-reads .value) (frame-reads .count ∙ admitted .data-length);
                 decimal = rw (frame-reads .value) (admitted .decimal);
                 range = rw (frame-reads .value) (admitted .range);
-              };
+              });
         }
 
     -- Any other is answered by error byte 04.
-    answered-04 : (Authorised request m → ⊥)
-        → answered (requestFrame request) m forward reverse (lent .reply) ≡ delivered (replies 0xD4 (notAuthorised ∷ []) (untouched m)) m (lent .reply)
-    unfolding treated commandOf addressed namesMeter authorised
+    answered-04 : (Authorised request m → ⊥) → RepliesWith (requestFrame request) m forward reverse (lent .reply) (untouched m) (m .address) 0xD4 (0x04 ∷ [])
     answered-04 unauthorised =
-        answered-treated (requestFrame request) m forward reverse (lent .reply) ranges (room .reply) (request-frame request typed allowed)
-        ∙ rw (frame-control, equal-same (addressOf (requestFrame request)) (m .address) frame-address)
-        (ap (λ (t : Treatment). delivered t m (lent .reply)) refusal)
+        error-replied (requestFrame request) m forward reverse (lent .reply) sized command.WriteData frame-put 0x04
+        (unauthorised-fails (dataOf (requestFrame request)) (m .key) (m .passwords) frame-lengths (admitted .item, frame-listed) (admitted .writable) missing)
       where
-        refusal : carriedOut command.WriteData (dataOf (requestFrame request)) m (valueAsked (dataOf (requestFrame request)) m forward reverse)
-            ≡ replies 0xD4 (notAuthorised ∷ []) (untouched m)
-        refusal =
-            unauthorised-write (dataOf (requestFrame request)) (admitted .item) m _ (omega (arith, frame-reads .size))
-            (omega (arith, frame-reads .size, few)) frame-listed (admitted .writable)
-            (λ k a. let right = and-eq-true-iff _ _ .0 (rw (frame-reads .level, frame-reads .password) at a) in
-            unauthorised (record { key-on = k; level = leb-true _ _ (right .0); password = same-equal _ _ (right .1) }))
+        missing : m .key ≡ true → RightPassword 4 (dataOf (requestFrame request)) (m .passwords) → ⊥
+        missing on right =
+            unauthorised
+            (record {
+              key-on = on;
+              level = rw (frame-reads .level) at (right .0);
+              password = rw (frame-reads .level, frame-reads .password) at (right .1);
+            })
 
   pub write-sets : request .action ≡ WriteData → MeantFor request m → Authorised request m → WriteSets request m forward reverse lent
   unfolding isNormal isError replyTo controlCode dataJudgement firstFailing normalChecks replyValue
@@ -181,8 +167,8 @@ module _ (request : Request) (typed : Typed request) (allowed : isAllowed reques
             (done .answer) (rw writes) (from-own writes for-meter) (Value 0) [] (rw writes) (rw writes)
             ∙ ap (λ (action : Action). comesTo request (done .after) (Judged (Value 0)) (replyFrame action (request .identifier) (m .address) []) [] lent)
             (sym writes);
-        item = checks .row .item;
-        listed = rw (reads .identifier) at (checks .row .listed);
+        item = checks .row .1 .0 .0;
+        listed = rw (reads .identifier) at (checks .row .1 .0 .1);
         held = done .held ∙ reads .value;
         operator = done .operator ∙ reads .operator;
         others = rw (reads .identifier) at (done .others);
@@ -195,16 +181,14 @@ module _ (request : Request) (typed : Typed request) (allowed : isAllowed reques
       reads : ReadsOff request (dataOf (requestFrame request))
       reads = frame-reads writes for-meter
 
-      checks : EveryCheckHolds (requestFrame request) m forward reverse (lent .reply)
+      checks : EveryCheckHolds (requestFrame request) m forward reverse (lent .reply) command.WriteData
       checks = every-check writes for-meter authorised
 
-      done : Accepted (requestFrame request) m forward reverse (lent .reply) (checks .row .item)
+      done : ValueSet (requestFrame request) m forward reverse (lent .reply) (checks .row .1 .0 .0)
       done = accepted-write (requestFrame request) m forward reverse (lent .reply) sized checks
 
   pub write-fails : request .action ≡ WriteData → MeantFor request m → (Authorised request m → ⊥) → WriteFails request m forward reverse lent notAuthorised
-  unfolding isNormal isError replyTo controlCode dataJudgement firstFailing errorChecks delivered
+  unfolding isNormal isError replyTo controlCode dataJudgement firstFailing errorChecks
   write-fails writes for-meter unauthorised =
       replied-exchange request typed allowed m forward reverse ranges lent room (untouched m) (m .address) 0xD4 (notAuthorised ∷ []) (sized .address) (omega arith)
-      (omega arith, tt) (answered-04 writes for-meter unauthorised
-      ∙ ap (λ (own : List ℕ). outcome (answeredWith (untouched m) (Replied 13)) (over (frameFor own 0xD4 (notAuthorised ∷ [])) (lent .reply)))
-      (untouched-keeps m .address)) (rw writes) (from-own writes for-meter) (Error notAuthorised) [] (rw writes) refl
+      (omega arith, tt) (answered-04 writes for-meter unauthorised) (rw writes) (from-own writes for-meter) (Error notAuthorised) [] (rw writes) refl

@@ -4,7 +4,7 @@ use Prim.Native.Nat.{ℕ, _+_, _*_, _≤_}
 use mathlib.Core.Path.{_≡_, refl, sym, _∙_, ap}
 use mathlib.Core.List.{List, [], _∷_}
 use mathlib.Core.Bool.{Bool, true, false, false≢true, and-eq-true-iff}
-use mathlib.Core.Logic.{_↔_, Iff·rfl}
+use mathlib.Core.Logic.{_↔_, Iff·rfl, inl, inr}
 use native.Mathlib.Omega.{arith}
 use lib.ListN.{length, take}
 use lib.Dec.{eqb}
@@ -187,3 +187,10 @@ module _ (command : Command) (payload : List ℕ) (key : Bool) (passwords : List
   pub fails-iff : (f : Failure) → (decided command payload key passwords ≡ failing f) ↔ FirstFails (wordsOf command payload key passwords) f
   unfolding decided
   fails-iff = failed-iff failing (accepted command payload) (accepted-apart command payload) failing-one _ _ (checks-say command payload key passwords bytes)
+
+-- Where the key is off, or level or password wrong, a write of a writable item answers 04.
+pub unauthorised-fails : (payload : List ℕ) (key : Bool) (passwords : List ℕ) → (12 ≤ length payload) × (length payload ≤ 50) → (named : NamesItem payload)
+    → named .0 .writable ≡ true → (key ≡ true → RightPassword 4 payload passwords → ⊥)
+    → FirstFails (wordsOf WriteData payload key passwords) (errorByte 0x04)
+unauthorised-fails payload true passwords lengths named writable missing = inr (lengths, inr (named, inr (writable, inr (refl, inl (missing refl, refl)))))
+unauthorised-fails payload false passwords lengths named writable missing = inr (lengths, inr (named, inr (writable, inl (false≢true, refl))))
