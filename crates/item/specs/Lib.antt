@@ -4,3 +4,4 @@ pub mod TableWords
 pub mod Content
 pub mod ContentLaws
 pub mod Examples
+pub mod Said

@@ -6,3 +6,4 @@ pub mod RescanLaws
 pub mod CallCases
 pub mod DeliversLaws
 pub mod RefusalWords
+pub mod Said

@@ -7,3 +7,4 @@ pub mod SkipLaws
 pub mod RestLaws
 pub mod BlockDue
 pub mod Examples
+pub mod Said

@@ -1,3 +1,4 @@
 pub mod Verdict
 pub mod VerdictLaws
 pub mod VerdictOnLaws
+pub mod Said

@@ -7,3 +7,4 @@ pub mod Step
 pub mod StepLaws
 pub mod ListedBlocks
 pub mod Examples
+pub mod Said

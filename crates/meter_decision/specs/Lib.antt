@@ -6,3 +6,4 @@ pub mod ChecksLaws
 pub mod DecisionLaws
 pub mod DecisionWords
 pub mod DecisionWordsLaws
+pub mod Said

@@ -2,3 +2,4 @@ pub mod Holding
 pub mod HoldingLaws
 pub mod EnergiesWords
 pub mod FreshWords
+pub mod Said

@@ -6,3 +6,4 @@ pub mod Judging
 pub mod JudgingLaws
 pub mod JudgeWords
 pub mod JudgeWordsLaws
+pub mod Said

@@ -1,3 +1,4 @@
 pub mod Judging
 pub mod JudgingWords
 pub mod JudgingWordsLaws
+pub mod Said

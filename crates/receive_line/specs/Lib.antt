@@ -1,3 +1,4 @@
 pub mod WholeLine
 pub mod WholeLineLaws
 pub mod WholeLineWords
+pub mod Said

@@ -4,3 +4,4 @@ pub mod StepLaws
 pub mod Chain
 pub mod ChainLaws
 pub mod Blocks
+pub mod Said
