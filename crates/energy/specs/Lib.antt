@@ -1,7 +1,6 @@
 pub mod Reading
 pub mod ReadingLaws
 pub mod Energies
-pub mod EnergiesLaws
 pub mod RangeLaws
 pub mod Columns
 pub mod ColumnsLaws

@@ -1,5 +1,5 @@
-// The readings of a meter: document 01, "for each direction there are thirteen rows of five readings". What a reading is, what
-// pulses and settlements make of rows, and both directions together. A host hands readings over by value, beside the meter; a test takes them lent.
+// The readings of a meter: document 01, "for each direction there are thirteen rows of five readings". What a reading is, rows of them, and
+// both directions together. A host hands readings over by value, beside the meter; a test takes them lent.
 pub mod reading;
 pub mod rows;
 

@@ -31,7 +31,7 @@ pub fn bytes_of(reading: Reading) -> [u8; 4]
 }
 
 // A reading with an amount added, modulo 100,000,000.
-pub(crate) fn plus(reading: Reading, amount: u32) -> Reading
+pub fn plus(reading: Reading, amount: u32) -> Reading
     ensures { λ r. ⌜ r ≡ plusAmount reading amount ⌝ }
 {
     ((reading as u64 + amount as u64) % 100000000) as u32

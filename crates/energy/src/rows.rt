@@ -1,8 +1,7 @@
-// Work on the thirteen rows of one direction. Rows move whole; what a reading is stands in reading.rt.
+// The thirteen rows of one direction: fresh ones, and whether every reading is within its range. What a reading is stands in reading.rt.
 use crate::Rows;
 use crate::reading;
 use crate::reading::Reading;
-use item_range::is_within;
 ghost use mathlib.Core.Path.{_≡_};
 ghost use Rattle.energy.specs.Energies as energies;
 
@@ -38,43 +37,4 @@ pub fn in_range(rows: &Rows) -> bool
         i += 1;
     }
     all
-}
-
-// Whether a number is a rate, 1 to 4.
-pub fn is_rate(rate: u8) -> bool
-    ensures { λ r. ⌜ r ≡ energies.isRate rate ⌝ }
-{
-    is_within(1, 4, rate as usize)
-}
-
-// A pulse amount added to row 0's rate and total; what is no rate changes nothing.
-pub fn pulsed(rows: Rows, amount: u32, rate: u8) -> Rows
-    ensures { λ r. ⌜ r ≡ energies.pulsed rows amount rate ⌝ }
-{
-    if !is_rate(rate) {
-        return rows;
-    }
-    let column = rate as usize;
-    let mut next = rows;
-    let mut row = next[0];
-    let total = reading::plus(row[0], amount);
-    let of_rate = reading::plus(row[column], amount);
-    row[0] = total;
-    row[column] = of_rate;
-    next[0] = row;
-    next
-}
-
-// Every row one down; row 12 is dropped and row 0 kept.
-pub fn settled(rows: Rows) -> Rows
-    ensures { λ r. ⌜ r ≡ energies.settled rows ⌝ }
-{
-    let mut next = rows;
-    let mut i = 12;
-    while 0 < i {
-        let row = rows[i - 1];
-        next[i] = row;
-        i -= 1;
-    }
-    next
 }

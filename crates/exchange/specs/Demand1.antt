@@ -18,7 +18,7 @@ use Rattle.frame.specs.Frame.{frameFor}
 use Rattle.frame_parts.specs.Writing.{writing, writingInPlace}
 use Rattle.frame_parts.specs.declared.Written.{Written}
 use Rattle.frame_parts.specs.declared.Written.the-variants.{Length, TooMuchData, TooLittleMemory}
-use Rattle.energy.specs.Energies.{Rows, isRate}
+use Rattle.energy.specs.Energies.{Rows}
 use Rattle.line_terms.specs.Line.{Symbol}
 use Rattle.line.specs.Receiver.{withinRange, refused, delivered, called}
 use Rattle.line.specs.declared.Receiver.{Receiver}
@@ -35,6 +35,7 @@ use Rattle.meter_holding.specs.declared.location.Location.the-variants.{Reading
 use Rattle.meter_holding.specs.declared.Held.{Held}
 use Rattle.meter_holding.specs.declared.Held.the-variants as held
 use Rattle.meter.specs.Meter.{freshMeter, withinRanges}
+use Rattle.meter_counting.specs.Rows.{isRate}
 use Rattle.meter_counting.specs.Counting as counting
 use Rattle.meter.specs.Host.{created, keySet, pulsedBy, settledBy}
 use Rattle.meter_counting.specs.Counting.{energiesOf}

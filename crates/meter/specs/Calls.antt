@@ -11,10 +11,12 @@ use Rattle.item_address.specs.Address.{Good}
 use Rattle.item_decimal.specs.Decimal.{isDecimal, firstBadFrom, firstBad, allDecimal}
 use Rattle.item_decimal.specs.DecimalLaws.{all-decimal}
 use Rattle.laws.specs.TestLaws.{pick-cases}
-use Rattle.energy.specs.Energies.{Rows, zeroRows, isRate}
+use Rattle.energy.specs.Energies.{Rows, zeroRows}
 use Rattle.meter.specs.Meter.{withKey, freshMeter}
 use Rattle.meter.specs.Ranges.{InRanges, within-ranges, ranges-again, untouched-ranges}
-use Rattle.energy.specs.RangeLaws.{RowsInRange, zero-rows-in-range, pulsed-in-range, settled-in-range}
+use Rattle.energy.specs.RangeLaws.{RowsInRange, zero-rows-in-range}
+use Rattle.meter_counting.specs.Rows.{isRate}
+use Rattle.meter_counting.specs.RowsLaws.{pulsed-in-range, settled-in-range}
 use Rattle.meter_counting.specs.Counting as counting
 use Rattle.meter.specs.Host.{created, keySet, pulsedBy, settledBy}
 use Rattle.meter.specs.Answer.{delivered, answered}

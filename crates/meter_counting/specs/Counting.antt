@@ -4,8 +4,9 @@ use mathlib.Core.Bool.{Bool, _&&_}
 use lib.Dec.{leb, eqb}
 use Rattle.laws.specs.Test.{pick}
 use Rattle.frame.specs.Refusals.{badArgument, outOfRange}
-use Rattle.energy.specs.Energies.{Rows, isRate, pulsed, settled}
+use Rattle.energy.specs.Energies.{Rows}
 use Rattle.energy.specs.declared.Energies.{Energies}
+use Rattle.meter_counting.specs.Rows.{isRate, pulsed, settled}
 use Rattle.meter_counting.specs.declared.Counted.{Counted}
 use Rattle.meter_counting.specs.declared.HostAnswer.{HostAnswer}
 use Rattle.meter_counting.specs.declared.HostAnswer.the-variants.{Done, Refused}

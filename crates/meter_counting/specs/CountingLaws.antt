@@ -5,8 +5,9 @@ use mathlib.Core.Bool.{Bool, true, false, _&&_, not}
 use lib.Dec.{leb, eqb}
 use Rattle.laws.specs.Test.{pick}
 use Rattle.frame.specs.Refusals.{badArgument, outOfRange}
-use Rattle.energy.specs.Energies.{Rows, isRate, pulsed, settled}
-use Rattle.energy.specs.EnergiesLaws.{pulsed-at-zero}
+use Rattle.energy.specs.Energies.{Rows}
+use Rattle.meter_counting.specs.Rows.{isRate, pulsed, settled}
+use Rattle.meter_counting.specs.RowsLaws.{pulsed-at-zero}
 use Rattle.meter_counting.specs.Counting.{counted, answerOf, pulsedBy, settledBy}
 use Rattle.meter_counting.specs.declared.HostAnswer.the-variants.{Done, Refused}
 

@@ -1,13 +1,14 @@
 // A pulse and a settlement counted in both directions' readings: document 01, "Host calls besides frames". Whether the meter is within
-// its ranges is told by the caller.
+// its ranges is told by the caller. What they make of one direction's rows is private, in rows.rt: a bad rate is refused here, with 8.
+mod rows;
+
 use energy::Energies;
 use energy::Rows;
-use energy::rows;
 use frame::refusal::BAD_ARGUMENT;
 use frame::refusal::OUT_OF_RANGE;
 ghost use mathlib.Core.Path.{_≡_};
 ghost use Rattle.laws.specs.Test.{pick};
-ghost use Rattle.energy.specs.Energies.{pulsed, settled};
+ghost use Rattle.meter_counting.specs.Rows.{pulsed, settled};
 ghost use Rattle.meter_counting.specs.Counting.{counted, answerOf, pulsedBy, settledBy};
 
 // The answer to a call of the host.

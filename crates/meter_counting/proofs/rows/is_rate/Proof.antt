@@ -1,8 +1,8 @@
 -- The range is that of `isRate`.
 use borrow.Author.Needs.{needs}
-use Rattle.energy.specs.Energies.{isRate}
-use Rattle.energy.proofs.rows.is_rate.Statement.{statement}
-use Rattle.energy.proofs.rows.is_rate.Tie as tie
+use Rattle.meter_counting.specs.Rows.{isRate}
+use Rattle.meter_counting.proofs.rows.is_rate.Statement.{statement}
+use Rattle.meter_counting.proofs.rows.is_rate.Tie as tie
 
 returns : tie.Need-returns
 unfolding isRate

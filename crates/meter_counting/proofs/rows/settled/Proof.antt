@@ -3,9 +3,9 @@ use mathlib.Core.Path.{_∙_}
 use mathlib.Core.List.{[]}
 use borrow.Author.Needs.{needs}
 use Rattle.laws.specs.ShiftLaws.{Shifting, shifting-start, shifting-next, shifting-end}
-use Rattle.energy.specs.EnergiesLaws.{settled-fronts}
-use Rattle.energy.proofs.rows.settled.Statement.{statement}
-use Rattle.energy.proofs.rows.settled.Tie as tie
+use Rattle.meter_counting.specs.RowsLaws.{settled-fronts}
+use Rattle.meter_counting.proofs.rows.settled.Statement.{statement}
+use Rattle.meter_counting.proofs.rows.settled.Tie as tie
 
 abbrev Inv-loop : tie.InvT-loop
 Inv-loop rows next₀ i₀ next i = Shifting 12 rows i next

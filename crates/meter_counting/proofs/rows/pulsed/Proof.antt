@@ -4,10 +4,10 @@ use mathlib.Core.Path.{_≡_, sym, _∙_}
 use mathlib.Core.Bool.{true}
 use borrow.Author.Needs.{needs}
 use borrow.Author.Tests.{not-true, not-false}
-use Rattle.energy.specs.Energies.{isRate, pulsed}
-use Rattle.energy.specs.EnergiesLaws.{rate-column, pulsed-set}
-use Rattle.energy.proofs.rows.pulsed.Statement.{statement}
-use Rattle.energy.proofs.rows.pulsed.Tie as tie
+use Rattle.meter_counting.specs.Rows.{isRate, pulsed}
+use Rattle.meter_counting.specs.RowsLaws.{rate-column, pulsed-set}
+use Rattle.meter_counting.proofs.rows.pulsed.Statement.{statement}
+use Rattle.meter_counting.proofs.rows.pulsed.Tie as tie
 
 -- the number is a rate, and so a column
 is-rate : (c : tie.Else1) → isRate (c .before .before .args .rate) ≡ true
