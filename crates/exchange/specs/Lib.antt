@@ -9,4 +9,4 @@ pub mod Reads
 pub mod WritesAcross
 pub mod Foreign
 pub mod Demand2
-pub mod Demand1
+pub mod Said

@@ -15,3 +15,4 @@ pub mod FrameRight
 pub mod Replies
 pub mod Calls
 pub mod FreshMeter
+pub mod Said
