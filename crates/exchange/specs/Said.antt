@@ -2,12 +2,12 @@
 -- before; the silence of a meter that the request is not for, which is 3; or what the reader made of the reply, which is never a refusal.
 use Prim.Native.Nat.{ℕ}
 use mathlib.Core.Path.{_≡_, refl, sym, ap, subst, _∙_}
-use mathlib.Core.List.{List, []}
+use mathlib.Core.List.{[]}
 use mathlib.Core.Bool.{Bool, true, false, true≢false, and-eq-true-iff}
 use mathlib.Core.Logic.{_↔_}
 use native.Mathlib.Omega.{arith}
 use borrow.Author.Tests.{leb-true, le-leb}
-use Rattle.laws.specs.Memory.{over, LeftAlone}
+use Rattle.laws.specs.Memory.{LeftAlone}
 use Rattle.laws.specs.Said.{Said, silence, refusal, IsRefusal, AsBefore}
 use Rattle.laws.specs.TestLaws.{pick-cases}
 use Rattle.frame.specs.Refusals.{shortMemory, notForThisMeter, notAllowed, outOfRange}
@@ -16,7 +16,7 @@ use Rattle.item_command.specs.AddresseeLaws.{for-iff}
 use Rattle.item_command.specs.Reply.{notAuthorised}
 use Rattle.item_same.specs.SameLaws.{same-equal, equal-same}
 use Rattle.energy.specs.Energies.{Rows}
-use Rattle.meter.specs.Meter.{MeterSized, untouched, withinRanges}
+use Rattle.meter.specs.Meter.{MeterSized, withinRanges}
 use Rattle.meter.specs.Ranges.{InRanges, within-ranges}
 use Rattle.meter.specs.declared.Meter.{Meter}
 use Rattle.meter_decision.specs.Decision.{authorised}

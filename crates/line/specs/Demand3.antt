@@ -16,6 +16,8 @@ use Rattle.line_terms.specs.Scan.{scan}
 use Rattle.line_terms.specs.ScanCertain.{certain-frames}
 use Rattle.line_terms.specs.NewFrames.{newly-found}
 use Rattle.line.specs.CallLaws.{newFrames, HasReceived, received-most, fresh-received, Answers, ignores, delivers, answers, After, after-none, after-then, after-one}
+use Rattle.laws.specs.Said.{IsRefusal}
+use Rattle.line.specs.Said.{receiverSaid}
 use Rattle.line.specs.Receiver.{fresh, keptBytes, called}
 use Rattle.line.specs.declared.Receiver.{Receiver}
 use Rattle.line.specs.declared.Received.{Received}
@@ -59,11 +61,6 @@ abbrev pub deliveredBytes : List ReceiverCall → List ℕ
 deliveredBytes [] = []
 deliveredBytes (c ∷ cs) = deliveredBy (c .returned .answer) (c .left) ++ deliveredBytes cs
 
--- The answer is a refusal.
-abbrev pub IsRefusal : Answer → Type 0
-IsRefusal (Refused n) = Unit
-IsRefusal (Delivered bytes frames) = ⊥
-
 -- A call lent under 212 bytes is refused with 1, and nothing changed.
 pub record Ignored (r : Receiver) (c : ReceiverCall) : Type 0 where
   pub answer : c .returned .answer ≡ Refused 1
@@ -79,7 +76,7 @@ pub record Counted (line : List Symbol) (c : ReceiverCall) : Type 1 where
 
 -- What holds of a call, by the line heard before it and the receiver given to it.
 pub record CallIsRight (line : List Symbol) (r : Receiver) (c : ReceiverCall) : Type 1 where
-  pub refused : IsRefusal (c .returned .answer) ↔ (length (c .lent) < 212)
+  pub refused : IsRefusal (receiverSaid (c .returned .answer)) ↔ (length (c .lent) < 212)
   pub short : length (c .lent) < 212 → Ignored r c
   pub enough : 212 ≤ length (c .lent) → Counted line c
 

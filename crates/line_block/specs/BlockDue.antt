@@ -18,16 +18,13 @@ use Rattle.line_terms.specs.Places.{joined, Exactly}
 use Rattle.line_terms.specs.ScanCertain.{certain-frames}
 use Rattle.line_terms.specs.Closed.{ended-taken}
 use Rattle.line_block.specs.Drain.{symbols, readingFrom}
+use Rattle.laws.specs.Said.{IsRefusal}
+use Rattle.line_block.specs.Said.{blockSaid}
 use Rattle.line_block.specs.Block.{blockReading, delivered, blockRead}
 use Rattle.line_block.specs.BlockLaws.{rest-most}
 use Rattle.line_block.specs.RestLaws.{rest-there}
 use Rattle.line_block.specs.declared.BlockAnswer.{BlockAnswer}
 use Rattle.line_block.specs.declared.BlockAnswer.the-variants.{Refused, Delivered}
-
--- The answer is a refusal.
-abbrev pub IsRefusal : BlockAnswer → Type 0
-IsRefusal (Refused n) = Unit
-IsRefusal (Delivered bytes frames rest) = ⊥
 
 -- A block with memory shorter than it is refused with 1, and nothing is written.
 pub record RefusesTheBlock (lent left : List ℕ) (answer : BlockAnswer) : Type 0 where
@@ -48,7 +45,7 @@ pub record ReadsTheBlock (block : List ℕ) (ended : Bool) (lent left : List ℕ
 
 -- What holds of the reading of a block, whatever memory is lent.
 pub record BlockIsRight (block : List ℕ) (ended : Bool) (lent left : List ℕ) (answer : BlockAnswer) : Type 1 where
-  pub refused : IsRefusal answer ↔ (length lent < length block)
+  pub refused : IsRefusal (blockSaid answer) ↔ (length lent < length block)
   pub short : length lent < length block → RefusesTheBlock lent left answer
   pub enough : length block ≤ length lent → ReadsTheBlock block ended lent left answer
 

@@ -22,7 +22,7 @@ use Rattle.line_terms.specs.Closed.{taken-frames}
 use Rattle.line_block.specs.Drain.{symbols}
 use Rattle.line_block.specs.BlockLaws.{rest-most}
 use Rattle.recording.specs.Step.{stepReading}
-use Rattle.recording.specs.Chain.{Says, refuses, keeps, IsRefusal, BufferCall, keptAfter, Chain, heard}
+use Rattle.recording.specs.Chain.{Says, refuses, keeps, IsRefused, BufferCall, keptAfter, Chain, heard}
 use Rattle.recording.specs.ChainLaws.{readingOf, Answers, refused, reads, foundBy, foundIn, chain-finds, chain-keeps, NewlyRead, chain-each, chain-anew}
 use Rattle.recording.specs.Blocks.{newBytes, step-reading}
 use Rattle.listing.specs.Lines.{linesOf}
@@ -90,7 +90,7 @@ IsShort c = TooShort (c .kept + c .read) (c .buffer) (c .lentFrames) (c .lentTex
 
 -- Exactly then it is refused, with 1, and nothing changes.
 pub record ListRefusal (c : ListCall) : Type 0 where
-  pub refused : IsRefusal (saysOf (c .answer)) ↔ IsShort c
+  pub refused : IsRefused (saysOf (c .answer)) ↔ IsShort c
   pub number : IsShort c → c .answer ≡ Refused 1
   pub buffer : IsShort c → LeftAlone (c .buffer) (c .leftBuffer)
   pub frames : IsShort c → LeftAlone (c .lentFrames) (c .leftFrames)

@@ -23,7 +23,7 @@ use Rattle.line_block.specs.Block.{blockReading}
 use Rattle.line_block.specs.BlockLaws.{rest-most}
 use Rattle.recording.specs.Step.{stepOutcome, stepReading, stepRead}
 use Rattle.recording.specs.StepLaws.{Stepping, ignores, delivers, stepping}
-use Rattle.recording.specs.Chain.{Says, refuses, keeps, IsRefusal, BufferCall, keptAfter, Chain, heard}
+use Rattle.recording.specs.Chain.{Says, refuses, keeps, IsRefused, BufferCall, keptAfter, Chain, heard}
 use Rattle.recording.specs.ChainLaws.{readingOf, Answers, refused, reads, foundBy, foundIn, chain-finds, chain-keeps, NewlyRead, chain-each}
 use Rattle.recording.specs.declared.StepAnswer.{StepAnswer}
 use Rattle.recording.specs.declared.StepAnswer.the-variants.{Refused, Delivered}
@@ -91,7 +91,7 @@ TooShort c = (length (c .buffer) < c .kept + c .read) ⊎ (length (c .lent) < c 
 
 -- Exactly then it is refused, with 1, and nothing changes.
 pub record StepRefusal (c : StepCall) : Type 0 where
-  pub refused : IsRefusal (saysOf (c .answer)) ↔ TooShort c
+  pub refused : IsRefused (saysOf (c .answer)) ↔ TooShort c
   pub number : TooShort c → c .answer ≡ Refused 1
   pub buffer : TooShort c → LeftAlone (c .buffer) (c .leftBuffer)
   pub memory : TooShort c → LeftAlone (c .lent) (c .left)

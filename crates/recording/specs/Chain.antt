@@ -11,9 +11,9 @@ pub data Says : Type 0 where
   refuses : Says
   keeps : ℕ → Says
 
-abbrev pub IsRefusal : Says → Type 0
-IsRefusal refuses = Unit
-IsRefusal (keeps n) = ⊥
+abbrev pub IsRefused : Says → Type 0
+IsRefused refuses = Unit
+IsRefused (keeps n) = ⊥
 
 -- A call: how many bytes it was told are kept at the front of the buffer, the buffer, the symbols that it brings behind them, what it said, and
 -- the buffer as it stood then.
@@ -36,8 +36,8 @@ keptAfter front (c ∷ cs) = keptAfter (keptBy (c .says) front (c .left)) cs
 
 -- The host's part: a call that is not refused was told how many bytes are kept, and its buffer began with them.
 pub record GoesOn (front : List ℕ) (c : BufferCall) : Type 0 where
-  pub told : (IsRefusal (c .says) → ⊥) → c .kept ≡ length front
-  pub begins : (IsRefusal (c .says) → ⊥) → take (length front) (c .buffer) ≡ front
+  pub told : (IsRefused (c .says) → ⊥) → c .kept ≡ length front
+  pub begins : (IsRefused (c .says) → ⊥) → take (length front) (c .buffer) ≡ front
 
 -- Calls one after the other, each that is not refused with what the last one kept.
 abbrev pub Chain : List ℕ → List BufferCall → Type 0

@@ -14,7 +14,7 @@ use Rattle.line_terms.specs.Places.{framesOf, Exactly}
 use Rattle.line_terms.specs.Scan.{LineReading, scan}
 use Rattle.line_terms.specs.NewFrames.{newly-found, new-reads}
 use Rattle.line_terms.specs.Turns.{BringsFrames, brings-reads, Turns, none, turn, turns-from-nothing}
-use Rattle.recording.specs.Chain.{Says, refuses, keeps, IsRefusal, BufferCall, keptBy, keptAfter, GoesOn, Chain, heardBy, heard}
+use Rattle.recording.specs.Chain.{Says, refuses, keeps, IsRefused, BufferCall, keptBy, keptAfter, GoesOn, Chain, heardBy, heard}
 
 -- What the bytes kept and the symbols brought read as.
 abbrev pub readingOf : BufferCall → LineReading
@@ -35,7 +35,7 @@ foundIn [] = []
 foundIn (c ∷ cs) = foundBy (c .says) (framesOf (readingOf c .frames)) ++ foundIn cs
 
 -- A call that is not refused reads what is kept and then what it brings.
-call-reading : {front : List ℕ} {c : BufferCall} → GoesOn front c → (IsRefusal (c .says) → ⊥) → readingOf c ≡ scan 0 0 (map byte front ++ c .brought)
+call-reading : {front : List ℕ} {c : BufferCall} → GoesOn front c → (IsRefused (c .says) → ⊥) → readingOf c ≡ scan 0 0 (map byte front ++ c .brought)
 call-reading {front} {c} h w =
     ap (λ (l : List ℕ). scan 0 0 (map byte l ++ c .brought)) (ap (λ (n : ℕ). take n (c .buffer)) (h .told w) ∙ h .begins w)
 
@@ -76,7 +76,7 @@ pub record NewlyRead (line : List Symbol) (c : BufferCall) : Type 1 where
   pub same : framesOf (new .frames) ≡ framesOf (readingOf c .frames)
   pub rest : RestOf (line ++ c .brought) (readingOf c .kept)
 
-newly-read : (line : List Symbol) {front : List ℕ} {c : BufferCall} → front ≡ scan 0 0 line .kept → GoesOn front c → (IsRefusal (c .says) → ⊥) → NewlyRead line c
+newly-read : (line : List Symbol) {front : List ℕ} {c : BufferCall} → front ≡ scan 0 0 line .kept → GoesOn front c → (IsRefused (c .says) → ⊥) → NewlyRead line c
 newly-read line {front} {c} e h w =
     let reading : readingOf c ≡ scan 0 0 (map byte (scan 0 0 line .kept) ++ c .brought) =
     call-reading h w ∙ ap (λ (l : List ℕ). scan 0 0 (map byte l ++ c .brought)) e in
@@ -95,7 +95,7 @@ chain-split front [] later h = (tt, h)
 chain-split front (e ∷ es) later h = let s = chain-split (keptBy (e .says) front (e .left)) es later (h .1) in ((h .0, s .0), s .1)
 
 pub chain-each : (earlier : List BufferCall) (c : BufferCall) (later : List BufferCall) → Chain [] (earlier ++ (c ∷ later)) →
-    AllOf Answers (earlier ++ (c ∷ later)) → (IsRefusal (c .says) → ⊥) → NewlyRead (heard earlier) c
+    AllOf Answers (earlier ++ (c ∷ later)) → (IsRefused (c .says) → ⊥) → NewlyRead (heard earlier) c
 chain-each earlier c later h a w =
     let s = chain-split [] earlier (c ∷ later) h in
     newly-read (heard earlier) (sym (chain-front earlier (s .0) (all-before Answers earlier (c ∷ later) a))) (s .1 .0) w
