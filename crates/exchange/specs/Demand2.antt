@@ -13,6 +13,7 @@ use Rattle.meter.specs.FreshMeter.{FreshIsRight, fresh-is-right}
 use Rattle.meter.specs.Ranges.{InRanges}
 use Rattle.meter.specs.declared.Meter.{Meter}
 use Rattle.reader.specs.Allowed.{RequestSized, isAllowed}
+use Rattle.reader.specs.BuildWords.{BuildIsRight, build-words}
 use Rattle.reader.specs.JudgeWords.{Judges}
 use Rattle.reader.specs.JudgeWordsLaws.{judge-words}
 use Rattle.reader.specs.AllowedWords.{AllowedInWords, allowed-words}
@@ -22,6 +23,7 @@ use Rattle.reader.specs.declared.Request.{Request}
 use Rattle.exchange.specs.Exchange.{Memories}
 use Rattle.exchange.specs.Hearing.{Brings, DeliveredLast, delivered-last}
 use Rattle.exchange.specs.ExchangeTerms.{Typed, MeantFor, IsRead, EnoughMemory, ReadGives, Authorised, WriteSets, WriteFails, GetsSilence}
+use Rattle.exchange.specs.Said.{ExchangeRefuses, exchange-refuses}
 use Rattle.exchange.specs.RequestFrameLaws.{request-frame}
 use Rattle.exchange.specs.Reads.{read-gives}
 use Rattle.exchange.specs.WritesAcross.{write-sets, write-fails}
@@ -59,14 +61,26 @@ pub record AnswersAsAsked : Type 0 where
   -- Both ends and the line together.
   pub exchange : (request : Request) → Typed request → AllowedInWords (request .action) request → (m : Meter) (forward reverse : Rows) → MeterSized m
       → InRanges m forward reverse → (lent : Memories) → EnoughMemory lent → ExchangeIsRight request m forward reverse lent
+  -- What is refused before anything is sent.
+  pub not-sent : (request : Request) (m : Meter) (forward reverse : Rows) (lent : Memories) → RequestSized request
+      → ExchangeRefuses request m forward reverse lent
   -- The meter's end, of any bytes: a write sets the one register that it names, and the operator code beside it, exactly when every listed check
   -- holds; otherwise nothing moves; foreign frames get silence; and so on through document 01's table.
   pub frame : (bytes : List ℕ) (m : Meter) (forward reverse : Rows) (memory : List ℕ) → MeterSized m → FrameIsRight bytes m forward reverse memory
   -- A fresh meter holds what document 01 lists.
   pub fresh : (address : List ℕ) → FreshIsRight address
-  -- The reader's end, of any bytes that come back.
+  -- The reader's end: the bytes of a request, and what is made of any bytes that come back.
+  pub build : (request : Request) (m : List ℕ) → RequestSized request → BuildIsRight request m
   pub reply : (request : Request) (bytes m : List ℕ) → RequestSized request → Judges request bytes m
 
 -- Demand 2.
 pub demand-2 : AnswersAsAsked
-demand-2 = record { exchange = exchange-is-right; frame = frame-is-right; fresh = fresh-is-right; reply = judge-words }
+demand-2 =
+    record {
+      exchange = exchange-is-right;
+      not-sent = exchange-refuses;
+      frame = frame-is-right;
+      fresh = fresh-is-right;
+      build = build-words;
+      reply = judge-words;
+    }

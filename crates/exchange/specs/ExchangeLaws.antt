@@ -43,6 +43,10 @@ enough-memory lent h =
       value = leb-true _ _ (parts .1 .1 .1);
     }
 
+pub memory-enough : (lent : Memories) → EnoughMemory lent → enough lent ≡ true
+unfolding isEnough
+memory-enough lent room = rw (le-leb 66 _ (room .sent), le-leb 212 _ (room .heard), le-leb 212 _ (room .reply), le-leb 196 _ (room .value))
+
 -- A length is no refusal.
 no-refusal : {n k : ℕ} → Length n ≡ Refused k → ⊥
 no-refusal e = let z : _≡_ {A = ℕ} 0 1 = cc in omega arith

@@ -33,8 +33,8 @@ use Rattle.reader_judgement.specs.declared.Action.{Action}
 use Rattle.reader_judgement.specs.declared.Action.the-variants.{ReadData, ReadAddress, WriteData}
 use Rattle.reader.specs.declared.Request.{Request}
 use Rattle.reader_judgement.specs.declared.Judgement.{Judgement}
-use Rattle.exchange.specs.Exchange.{Memories, isEnough, concluded, carried, exchanged}
-use Rattle.exchange.specs.ExchangeLaws.{sent-frame}
+use Rattle.exchange.specs.Exchange.{Memories, concluded, carried, exchanged}
+use Rattle.exchange.specs.ExchangeLaws.{sent-frame, memory-enough}
 use Rattle.exchange.specs.ExchangeTerms.{Typed, EnoughMemory, comesTo}
 use Rattle.exchange.specs.declared.ExchangeAnswer.the-variants.{Silent, Judged}
 
@@ -89,16 +89,8 @@ module _ (request : Request) (typed : Typed request) (allowed : isAllowed reques
   -- An exchange with a meter within its ranges goes over the line.
   module _ (m : Meter) (forward reverse : Rows) (ranges : InRanges m forward reverse) (lent : Memories) (room : EnoughMemory lent) where
     goes-over : exchanged request m forward reverse lent ≡ carried request m forward reverse lent
-    unfolding exchanged isEnough
-    goes-over =
-        rw (
-          within-ranges m forward reverse .1 ranges,
-          le-leb 66 _ (room .sent),
-          le-leb 212 _ (room .heard),
-          le-leb 212 _ (room .reply),
-          le-leb 196 _ (room .value),
-          allowed,
-        )
+    unfolding exchanged
+    goes-over = rw (within-ranges m forward reverse .1 ranges, memory-enough lent room, allowed)
 
     -- Where the meter gives no reply.
     pub silent-exchange : (n : ℕ) → answered (requestFrame request) m forward reverse (lent .reply) ≡ outcome (answeredWith m (frames.Refused n)) (lent .reply)

@@ -9,7 +9,7 @@ use native.Mathlib.Omega.{arith}
 use borrow.Author.Tests.{leb-true, le-leb}
 use Rattle.laws.specs.Memory.{LeftAlone}
 use Rattle.laws.specs.Said.{Said, silence, refusal, IsRefusal, AsBefore}
-use Rattle.laws.specs.TestLaws.{pick-cases}
+use Rattle.laws.specs.TestLaws.{pick-cases, not-true}
 use Rattle.frame.specs.Refusals.{shortMemory, notForThisMeter, notAllowed, outOfRange}
 use Rattle.item_command.specs.Addressee.{addressed}
 use Rattle.item_command.specs.AddresseeLaws.{for-iff}
@@ -20,7 +20,8 @@ use Rattle.meter.specs.Meter.{MeterSized, withinRanges}
 use Rattle.meter.specs.Ranges.{InRanges, within-ranges}
 use Rattle.meter.specs.declared.Meter.{Meter}
 use Rattle.meter_decision.specs.Decision.{authorised}
-use Rattle.reader.specs.Allowed.{isAllowed}
+use Rattle.reader.specs.Allowed.{RequestSized, isAllowed}
+use Rattle.reader.specs.AllowedWords.{AllowedInWords, allowed-words}
 use Rattle.reader.specs.Building.{sentTo}
 use Rattle.reader.specs.declared.Request.{Request}
 use Rattle.reader_judgement.specs.Judging.{commandFor}
@@ -30,7 +31,7 @@ use Rattle.reader_judgement.specs.declared.Action.the-variants.{ReadData, ReadA
 use Rattle.reader_judgement.specs.declared.Judgement.{Judgement}
 use Rattle.reader_judgement.specs.declared.Judgement.the-variants as judging
 use Rattle.exchange.specs.Exchange.{Memories, ExchangeOutcome, outcomeOf, refusedWith, enough, exchanged}
-use Rattle.exchange.specs.ExchangeLaws.{enough-memory}
+use Rattle.exchange.specs.ExchangeLaws.{enough-memory, memory-enough}
 use Rattle.exchange.specs.ExchangeTerms.{Typed, MeantFor, IsRead, EnoughMemory, comesTo, Authorised}
 use Rattle.exchange.specs.Foreign.{gets-silence}
 use Rattle.exchange.specs.Reads.{read-gives}
@@ -71,6 +72,28 @@ module _ (request : Request) (m : Meter) (forward reverse : Rows) (lent : Memori
     refuses : (n : ℕ) → exchanged request m forward reverse lent ≡ outcomeOf (refusedWith n m) lent → Ends
     silent : exchanged request m forward reverse lent ≡ comesTo request m (Silent notForThisMeter) [] [] lent → Ends
     judges : (judgement : Judgement) → IsGood judgement → exchanged request m forward reverse lent .returned .answer ≡ Judged judgement → Ends
+
+  -- What is refused, before anything is sent: 16, then 1 for any of the four memories, then 5; all as before.
+  pub record ExchangeRefuses : Type 0 where
+    pub out-of-range : (InRanges m forward reverse → ⊥) → exchanged request m forward reverse lent ≡ outcomeOf (refusedWith 16 m) lent
+    pub short-memory : InRanges m forward reverse → (EnoughMemory lent → ⊥) → exchanged request m forward reverse lent ≡ outcomeOf (refusedWith 1 m) lent
+    pub not-allowed : InRanges m forward reverse → EnoughMemory lent → (AllowedInWords (request .action) request → ⊥)
+        → exchanged request m forward reverse lent ≡ outcomeOf (refusedWith 5 m) lent
+
+  pub exchange-refuses : RequestSized request → ExchangeRefuses
+  unfolding exchanged
+  exchange-refuses sized =
+      record {
+        out-of-range = λ out. rw (not-true (withinRanges m forward reverse) (λ h. out (within-ranges m forward reverse .0 h)));
+        short-memory =
+            λ ranges few. rw (within-ranges m forward reverse .1 ranges, not-true (enough lent) (λ h. few (enough-memory lent h)));
+        not-allowed =
+            λ ranges room none. rw (
+              within-ranges m forward reverse .1 ranges,
+              memory-enough lent room,
+              not-true (isAllowed request) (λ h. none (allowed-words request sized .0 h)),
+            );
+      }
 
   -- What an exchange answers and leaves.
   pub record ExchangeAnswers : Type 0 where

@@ -1,6 +1,6 @@
 // Both ends and the line together: a request is built, heard byte by byte by a fresh receiver and handed to the meter, and the
-// reply is judged. Demand 2 of the letter, end to end, is `demand-2` in specs/Demand2.antt; demand 1, gathered, is `demand-1` in
-// specs/Demand1.antt; document 01's cases A to I are one table in the crate `exchange_cases`.
+// reply is judged. Demand 2 of the letter is `demand-2` in specs/Demand2.antt; document 01's cases A to I are one table in the
+// crate `exchange_cases`.
 use energy::Rows;
 use frame::MOST_FRAME;
 use frame::refusal::NOT_ALLOWED;
@@ -28,7 +28,7 @@ ghost use Rattle.exchange.specs.Exchange.{WakeUpFrame, WithinReply, refu
 pub enum ExchangeAnswer {
     // A refusal, by document 01's number: nothing was sent, all as before.
     Refused(u8),
-    // The meter gave no reply, by the number of its refusal: meter and memory for reply and value as before.
+    // The meter gave no reply, by the number of its refusal, which is 3: meter and memory for reply and value as before.
     Silent(u8),
     // What the reader made of the reply.
     Judged(Judgement),
@@ -124,8 +124,8 @@ fn conclude(
 
 // An exchange with a meter, in four output buffers: for the request, for what the receiver delivers, for the reply and for the
 // value. Refused with 16, with 1 under 66, 212, 212 and 196 bytes, and with 5: then nothing was sent, and all is as before.
-// A frame that the meter refuses with 3 or 4 is answered by silence. What the meter replies is judged, with the judge's
-// refusals 2, 6 and 7; `demand-2` shows that no reply of a meter to an allowed request gets one.
+// A request that is not for this meter gets its silence, 3. What the meter replies is judged, and no reply of a meter is refused
+// by the judge (`exchange-answers`).
 pub fn exchange(
     request: Request,
     meter: Meter,

@@ -13,6 +13,11 @@ pub pick-same : {A : Type 0} (t : Bool) {a : A} → pick t a a ≡ a
 pick-same true = refl
 pick-same false = refl
 
+-- A test that does not hold.
+pub not-true : (t : Bool) → (t ≡ true → ⊥) → t ≡ false
+not-true true h = absurd (h refl)
+not-true false h = refl
+
 -- Which of two that differ was picked says what the test gave.
 pub picked-first : {A : Type 0} (t : Bool) {a b x : A} → (b ≡ x → false ≡ true) → pick t a b ≡ x → (t ≡ true) × (a ≡ x)
 picked-first true differ h = (refl, h)

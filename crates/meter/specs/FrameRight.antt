@@ -1,12 +1,13 @@
 -- Any bytes put to a meter come to what document 01 says, in words.
 use Prim.Native.Nat.{ℕ}
-use mathlib.Core.Path.{_≡_, refl}
+use mathlib.Core.Path.{_≡_}
 use mathlib.Core.List.{List}
-use mathlib.Core.Bool.{Bool, true, false}
+use mathlib.Core.Bool.{true}
 use native.Mathlib.Omega.{arith}
 use lib.ListN.{length}
 use lib.Dec.{leb}
 use borrow.Author.Tests.{leb-true, le-leb}
+use Rattle.laws.specs.TestLaws.{not-true}
 use Rattle.frame.specs.Frame.{controlOf}
 use Rattle.frame.specs.Recognition.{exactlyOne}
 use Rattle.frame.specs.RecognitionLaws.{one-frame}
@@ -25,11 +26,6 @@ use Rattle.meter.specs.Silence.{foreign-silent}
 use Rattle.meter.specs.Writes.{accepted-write}
 use Rattle.meter.specs.Changes.{accepted-address, accepted-password, not-accepted}
 use Rattle.meter.specs.declared.Meter.{Meter}
-
--- A test that does not hold.
-not-true : (t : Bool) → (t ≡ true → ⊥) → t ≡ false
-not-true true h = absurd (h refl)
-not-true false h = refl
 
 pub frame-is-right : (bytes : List ℕ) (m : Meter) (forward reverse : Rows) (memory : List ℕ) → MeterSized m → FrameIsRight bytes m forward reverse memory
 unfolding answered replyData meterAfter valueFor itemAsked

@@ -52,9 +52,11 @@ Counts ReadAddress request = Unit
 Counts WriteData request = request .count ≤ mostValue
 
 -- The frame of a request.
+abbrev pub frameOfAction : Action → Request → List ℕ
+frameOfAction action request = frameFor (sentTo action (request .address)) (controlFor (commandFor action)) (sentData action request)
+
 unfoldable pub requestFrame : Request → List ℕ
-requestFrame request =
-    frameFor (sentTo (request .action) (request .address)) (controlFor (commandFor (request .action))) (sentData (request .action) request)
+requestFrame request = frameOfAction (request .action) request
 
 -- A request is built with four FE in front.
 unfoldable pub requestBytes : Request → List ℕ

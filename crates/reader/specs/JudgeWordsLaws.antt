@@ -1,5 +1,5 @@
 -- The judge of a reply says what document 01 says in words; and a reading that it passes is one.
-use Prim.Native.Nat.{ℕ, _+_, _*_, _/_, _%_, _≤_}
+use Prim.Native.Nat.{ℕ, _+_, _≤_}
 use mathlib.Core.Path.{_≡_, refl, sym, ap, subst, _∙_}
 use mathlib.Core.List.{List, [], _∷_, _++_}
 use mathlib.Core.Logic.{_↔_}
@@ -15,8 +15,10 @@ use Rattle.frame.specs.FrameLaws.{address-six}
 use Rattle.frame.specs.RecognitionLaws.{one-frame, frame-one}
 use Rattle.item_decimal.specs.Decimal.{Decimal, unpacked}
 use Rattle.item_decimal.specs.DecimalLaws.{unpacked-below}
-use Rattle.item.specs.Table.{itemOf, energyItem, readings, readOnly}
+use Rattle.item.specs.Table.{itemOf, readOnly}
 use Rattle.item.specs.declared.table.Kind.the-variants.{Energy}
+use Rattle.item.specs.TableWords as table
+use Rattle.item.specs.TableWords.{one, table-words}
 use Rattle.item.specs.declared.table.Item.{Item}
 use Rattle.item.specs.declared.table.Lookup.the-variants.{Listed}
 use Rattle.reader_judgement.specs.Judging.{replyValue, dataJudgement}
@@ -218,35 +220,18 @@ module _ (request : Request) (bytes m : List ℕ) (sized : RequestSized request)
   }
 
 -- The table has one reading of four bytes for such an identifier.
-table-reading : (direction high : ℕ) (t s : ℕ) → t ≤ 4 → s ≤ 12 → energyItem direction ((65536 * high + (256 * t + s)) / 256 % 256) ((65536 * high + (256 * t + s)) % 256) ≡ Listed (readOnly (Energy direction t 1 s 1) 4)
-unfolding energyItem readings
-table-reading direction high t s h k =
-    let middle : (65536 * high + (256 * t + s)) / 256 % 256 ≡ t = omega arith in
-    let low : (65536 * high + (256 * t + s)) % 256 ≡ s = omega arith in
-    rw (middle, low, le-leb t 4 h, le-leb s 12 k)
-
-forward-reading : (t s : ℕ) → t ≤ 4 → s ≤ 12 → itemOf (0x00010000 + (256 * t + s)) ≡ Listed (readOnly (Energy 0 t 1 s 1) 4)
-unfolding itemOf
-forward-reading t s h k =
-    let first : (0x00010000 + (256 * t + s)) / 65536 ≡ 1 = omega arith in
-    rw first (table-reading 0 1 t s h k)
-
-reverse-reading : (t s : ℕ) → t ≤ 4 → s ≤ 12 → itemOf (0x00020000 + (256 * t + s)) ≡ Listed (readOnly (Energy 1 t 1 s 1) 4)
-unfolding itemOf
-reverse-reading t s h k =
-    let first : (0x00020000 + (256 * t + s)) / 65536 ≡ 2 = omega arith in
-    rw first (table-reading 1 2 t s h k)
-
 reading-length : (identifier : ℕ) (item : Item) → OneReading identifier → itemOf identifier ≡ Listed item → item .length ≡ 4
-reading-length identifier item (forward t s h k e) listed = cc (forward-reading t s h k)
-reading-length identifier item (reverse t s h k e) listed = cc (reverse-reading t s h k)
+reading-length identifier item (forward t s h k e) listed =
+    cc (table-words identifier (readOnly (Energy 0 t 1 s 1) 4) .1 (table.forward (one t s h k e refl)))
+reading-length identifier item (reverse t s h k e) listed =
+    cc (table-words identifier (readOnly (Energy 1 t 1 s 1) 4) .1 (table.reverse (one t s h k e refl)))
 
 -- Where the judge passes a reply to a read of one reading, its value has four bytes, and their number is one that a reading can have.
 pub good-reading : (request : Request) (bytes m : List ℕ) → RequestSized request → request .action ≡ ReadData → OneReading (request .identifier)
     → (n : ℕ) → judged request bytes m .answer ≡ Value n → (n ≡ 4) × (unpacked (take 4 (judged request bytes m .memory)) ≤ 99999999)
-good-reading request bytes m sized read one n e =
+good-reading request bytes m sized read single n e =
     let good : GoodRead request bytes m n = subst (λ (a : Action). GoodValue a request bytes m n) read (judge-words request bytes m sized .value n .0 e) in
-    let four : length (drop 4 (dataOf bytes)) ≡ 4 = good .as-long ∙ reading-length (request .identifier) (good .item) one (good .listed) in
+    let four : length (drop 4 (dataOf bytes)) ≡ 4 = good .as-long ∙ reading-length (request .identifier) (good .item) single (good .listed) in
     let front : judged request bytes m .memory ≡ over (drop 4 (dataOf bytes)) m =
     subst (λ (a : Action). judged request bytes m .memory ≡ over (valueOfReply a (dataOf bytes)) m) read (judge-words request bytes m sized .in-front n e) in
     let value : take 4 (judged request bytes m .memory) ≡ drop 4 (dataOf bytes) = rw front (take-at (drop 4 (dataOf bytes)) _ 4 four) in

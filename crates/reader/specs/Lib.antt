@@ -2,6 +2,7 @@ pub mod Allowed
 pub mod AllowedWords
 pub mod Building
 pub mod BuildingLaws
+pub mod BuildWords
 pub mod Judging
 pub mod JudgingLaws
 pub mod JudgeWords
