@@ -25,7 +25,8 @@ use Rattle.meter.specs.AnswerLaws.{Reaches}
 use Rattle.meter.specs.Meter.{MeterSized, valueHeld}
 use Rattle.meter_holding.specs.Holding as holding
 use Rattle.meter_holding.specs.Holding.{locationOf, heldAt}
-use Rattle.meter.specs.Ranges.{InRanges, direction-in-range}
+use Rattle.meter.specs.Ranges.{InRanges}
+use Rattle.meter_holding.specs.RangesWords.{direction-in-range}
 use Rattle.item_command.specs.Addressee.{ReadFor, exact, short}
 use Rattle.item_command.specs.AddresseeLaws.{for-iff}
 use Rattle.meter.specs.declared.Meter.{Meter}

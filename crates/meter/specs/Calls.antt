@@ -122,7 +122,7 @@ module _ (m : Meter) (forward reverse : Rows) (h : InRanges m forward reverse) w
       go : Answers bytes m forward reverse memory → let a = answered bytes m forward reverse memory .answer in
           Kept (a .meter) forward reverse (a .answer ≡ frames.Refused outOfRange)
       go (refuses n small e) = rw e (h, λ r. omega (arith, small h, ap frameNumber r))
-      go (errs command b w loud e) = rw e (untouched-ranges h, λ r. omega (arith, ap frameNumber r))
+      go (errs command b w loud e) = rw e (untouched-ranges m h, λ r. omega (arith, ap frameNumber r))
       go (carries command w all e) = rw e (ranges-after command (dataOf bytes) m forward reverse h all, λ r. omega (arith, ap frameNumber r))
 
 kept : (c : MeterCall) (s : State) → InRanges (s .meter) (s .forward) (s .reverse)

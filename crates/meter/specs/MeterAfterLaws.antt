@@ -71,8 +71,8 @@ sized-after ChangePassword payload m sized h =
 pub ranges-after : (command : Command) (payload : List ℕ) (m : Meter) (forward reverse : Rows) → InRanges m forward reverse
     → AllHold (checksOf command payload (m .key) (m .passwords)) → InRanges (meterAfter command payload m) forward reverse
 unfolding checksOf meterAfter itemAsked
-ranges-after ReadData payload m forward reverse ranges h = untouched-ranges ranges
-ranges-after ReadAddress payload m forward reverse ranges h = untouched-ranges ranges
+ranges-after ReadData payload m forward reverse ranges h = untouched-ranges m ranges
+ranges-after ReadAddress payload m forward reverse ranges h = untouched-ranges m ranges
 ranges-after WriteData payload m forward reverse ranges h =
     let w : WriteHolds payload (m .key) (m .passwords) = write-holds payload (m .key) (m .passwords) h in
     ranges-again ranges (meterAfter WriteData payload m)
