@@ -56,7 +56,7 @@ record ReadsOff (request : Request) (payload : List ℕ) : Type 0 where
   count : length (requestValue request) ≡ request .count
 
 reads-off : (request : Request) → Typed request → request .count ≤ 38 → ReadsOff request (sentData WriteData request)
-unfolding sentData identifierBytes requestValue
+unfolding sentData identifierBytes
 reads-off request typed few =
     record {
       size = write-length request (typed .sized .password) (typed .sized .operator) (omega (arith, typed .sized .value));

@@ -192,7 +192,7 @@ AllCompute [] = Unit
 AllCompute (c ∷ cases) = Computes c × AllCompute cases
 
 computed : AllCompute table
-unfolding scan readingBy before begins broken bytesBefore recognised recognisedBody recognisedEnd isAll exactlyOne checksumOf total lengthOf fieldOf dataOf unmasked masked summed frameOf frameFor addressOf controlOf isGood lowBytes hasShortForm isShort digitsAt within minutesInRange inRange contentOf isDecimal firstBadFrom firstBad allDecimal digits lowDigits packed controlCode replyTo same itemOf energyItem readings otherRows found readingInRange readingBytes rowInRange rowsInRange readingAt columnBytes columnsBytes withPart passwordAt locationOf heldAt holding.valueHeld registersWith holding.withinRanges freshMeter commandOf namesMeter addressed identifierOf itemAsked levelOf passwordOf operatorOf writtenValue authorised checksOf replyData untouched meterAfter carriedOut treated delivered requestValue addressAllowed valueConditions conditionsOf admission isAllowed identifierBytes sentData requestFrame requestBytes firstFailing isNormal isError answersFrom isAnswer errorChecks normalChecks replyValue dataJudgement judgementOf table readingOf allOf contentChecks isJudged callChecks frameChecks beforeSilence
+unfolding scan readingBy before begins broken bytesBefore recognised recognisedBody recognisedEnd isAll exactlyOne checksumOf total lengthOf fieldOf dataOf unmasked masked summed frameOf frameFor addressOf controlOf isGood lowBytes hasShortForm isShort digitsAt within minutesInRange inRange contentOf isDecimal firstBadFrom firstBad allDecimal digits lowDigits packed controlCode replyTo same itemOf energyItem readings otherRows found readingInRange readingBytes rowInRange rowsInRange readingAt columnBytes columnsBytes withPart passwordAt locationOf heldAt holding.valueHeld registersWith holding.withinRanges freshMeter commandOf namesMeter addressed identifierOf itemAsked levelOf passwordOf operatorOf writtenValue authorised checksOf replyData untouched meterAfter carriedOut treated delivered addressAllowed valueConditions conditionsOf admission isAllowed identifierBytes sentData requestFrame requestBytes firstFailing isNormal isError answersFrom isAnswer errorChecks normalChecks replyValue dataJudgement judgementOf table readingOf allOf contentChecks isJudged callChecks frameChecks beforeSilence
 computed = ((refl, refl), ((refl, refl, refl), ((refl, refl, refl), ((refl, refl, refl), ((refl, refl), ((refl, refl), ((refl, refl, refl), ((refl, refl), ((refl, refl, refl), ((refl, refl), ((refl, refl), ((refl, refl, refl), ((refl, refl), ((refl, refl, refl), ((refl, refl), ((refl, refl, refl), (((refl, refl, refl), (refl, refl, refl)), (((refl, refl, refl), (refl, refl, refl)), ((refl, refl, refl), tt)))))))))))))))))))
 
 -- A line: the frames listed are the certain ones, and those that every choice that keeps the rule takes; the bytes listed are its rest; and

@@ -4,10 +4,8 @@ use mathlib.Core.Path.{_≡_}
 use mathlib.Core.List.{List}
 use mathlib.Core.Bool.{Bool}
 use lib.ListN.{length, take}
-use Rattle.laws.specs.Checks.{Check}
 use Rattle.reader_judgement.specs.declared.Action.{Action}
 use Rattle.reader_allowed.specs.Allowed as parts
-use Rattle.reader_allowed.specs.declared.Cause.{Cause}
 use Rattle.reader_allowed.specs.declared.Admission.{Admission}
 use Rattle.reader.specs.declared.Request.{Request}
 
@@ -19,16 +17,15 @@ pub record RequestSized (request : Request) : Type 0 where
   pub value : length (request .value) ≡ 38
 
 -- The value to be written: the first of the request's bytes, as many as it counts.
-unfoldable pub requestValue : Request → List ℕ
+abbrev pub requestValue : Request → List ℕ
 requestValue request = take (request .count) (request .value)
 
--- The conditions of each action of a request, by its parts.
-abbrev pub conditionsOf : Action → Request → List (Check Cause)
-conditionsOf action request = parts.conditionsOf action (request .address) (request .identifier) (request .level) (request .value) (request .count)
+-- What is admitted of a request whose action this is, by its parts.
+abbrev pub admissionOf : Action → Request → Admission
+admissionOf action request = parts.admission action (request .address) (request .identifier) (request .level) (request .value) (request .count)
 
--- The first condition that does not hold refuses.
 abbrev pub admission : Request → Admission
-admission request = parts.admission (request .action) (request .address) (request .identifier) (request .level) (request .value) (request .count)
+admission request = admissionOf (request .action) request
 
 unfoldable pub isAllowed : Request → Bool
 isAllowed request = parts.isAdmitted (admission request)

@@ -36,7 +36,7 @@ write-parts request = simp append-assoc
 -- They are twelve bytes and the value.
 pub write-length : (request : Request) → length (request .password) ≡ 3 → length (request .operator) ≡ 4 → request .count ≤ length (request .value)
     → length (sentData WriteData request) ≡ 12 + request .count
-unfolding sentData requestValue
+unfolding sentData
 write-length request three four fits =
     let long : length (take (request .count) (request .value)) ≡ request .count = length-take-le (request .count) (request .value) fits in
     simp length-append (omega (arith, identifier-four (request .identifier)))

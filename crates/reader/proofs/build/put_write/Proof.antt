@@ -74,7 +74,6 @@ operator-put c =
 
 value-put : (c : tie.After-put-part3) → let s = start-of (level-of (password-of (operator-of c))) in
     Puts (sentData WriteData (s .args .request)) (12 + s .args .request .count) (s .args .out .now) (c .put-part3 .last .1 .1 .0)
-unfolding requestValue
 value-put c =
     let s = start-of (level-of (password-of (operator-of c))) in
     let request = s .args .request in
