@@ -1,0 +1,68 @@
+-- Document 01's words for a pulse and a settlement: what each answers, and what becomes of the reading at each row and column.
+use Prim.Native.Nat.{ℕ, _+_, _%_, _≤_}
+use mathlib.Core.Path.{_≡_}
+use mathlib.Core.List.{List}
+use mathlib.Core.Bool.{Bool, true, false}
+use lib.ListN.{length}
+use Rattle.laws.specs.All.{AllOf}
+use Rattle.energy.specs.Reading.{Reading, numberOf}
+use Rattle.energy.specs.Energies.{Rows, readingAt}
+use Rattle.energy.specs.declared.Energies.{Energies}
+use Rattle.meter_counting.specs.Counting.{energiesOf, pulsedBy, settledBy}
+use Rattle.meter_counting.specs.declared.HostAnswer.{HostAnswer}
+use Rattle.meter_counting.specs.declared.HostAnswer.the-variants.{Done, Refused}
+
+-- The number of the reading at a row and a column.
+abbrev pub number : Rows → ℕ → ℕ → ℕ
+number rows row column = numberOf (readingAt rows row column)
+
+-- A row of five readings, and thirteen of them.
+abbrev pub OfFive : List Reading → Type 0
+OfFive row = length row ≡ 5
+
+pub record Sized (rows : Rows) : Type 0 where
+  pub thirteen : length rows ≡ 13
+  pub each : AllOf OfFive rows
+
+-- A pulse amount is added to row 0's rate and total, each modulo 100,000,000, and to no other reading.
+pub record PulseCounted (amount rate : ℕ) (rows after : Rows) : Type 0 where
+  pub total : number after 0 0 ≡ (number rows 0 0 + amount) % 100000000
+  pub of-rate : number after 0 rate ≡ (number rows 0 rate + amount) % 100000000
+  pub other-columns : (column : ℕ) → (column ≡ 0 → ⊥) → (column ≡ rate → ⊥) → number after 0 column ≡ number rows 0 column
+  pub other-rows : (row column : ℕ) → 1 ≤ row → number after row column ≡ number rows row column
+  pub sized : Sized after
+
+-- A call refused by this number hands both directions back as before.
+abbrev pub RefusedBy : ℕ → Rows → Rows → HostAnswer → Energies → Type 0
+RefusedBy n forward reverse answer after = (answer ≡ Refused n) × (after ≡ energiesOf forward reverse)
+
+-- A pulse: 16 for a meter outside its ranges, then 8 where the direction is not 0 or 1 or the rate not 1 to 4; else it counts in its own
+-- direction, 0 forward or 1 reverse, and the other direction is as before.
+pub record PulseIsRight (amount direction rate : ℕ) (within : Bool) (forward reverse : Rows) : Type 0 where
+  pub out-of-range : within ≡ false
+      → let c = pulsedBy amount direction rate within forward reverse in
+      RefusedBy 16 forward reverse (c .answer) (c .energies)
+  pub bad : within ≡ true → ((direction ≤ 1) × (1 ≤ rate) × (rate ≤ 4) → ⊥)
+      → let c = pulsedBy amount direction rate within forward reverse in
+      RefusedBy 8 forward reverse (c .answer) (c .energies)
+  pub forward-counted : within ≡ true → direction ≡ 0 → 1 ≤ rate → rate ≤ 4
+      → let c = pulsedBy amount direction rate within forward reverse in
+      (c .answer ≡ Done) × PulseCounted amount rate forward (c .energies .forward) × (c .energies .reverse ≡ reverse)
+  pub reverse-counted : within ≡ true → direction ≡ 1 → 1 ≤ rate → rate ≤ 4
+      → let c = pulsedBy amount direction rate within forward reverse in
+      (c .answer ≡ Done) × PulseCounted amount rate reverse (c .energies .reverse) × (c .energies .forward ≡ forward)
+
+-- A settlement moves every row down one, drops row 12, and keeps row 0.
+pub record Settled (rows after : Rows) : Type 0 where
+  pub current : (column : ℕ) → number after 0 column ≡ number rows 0 column
+  pub moved : (row column : ℕ) → row ≤ 11 → number after (row + 1) column ≡ number rows row column
+  pub sized : Sized after
+
+-- A settlement: 16 for a meter outside its ranges; else both directions settle.
+pub record SettleIsRight (within : Bool) (forward reverse : Rows) : Type 0 where
+  pub out-of-range : within ≡ false
+      → let c = settledBy within forward reverse in
+      RefusedBy 16 forward reverse (c .answer) (c .energies)
+  pub settles : within ≡ true
+      → let c = settledBy within forward reverse in
+      (c .answer ≡ Done) × Settled forward (c .energies .forward) × Settled reverse (c .energies .reverse)
