@@ -5,7 +5,7 @@ use mathlib.Core.List.{List, []}
 use mathlib.Core.Bool.{Bool}
 use lib.ListN.{getD, replicate}
 use Rattle.laws.specs.All.{allOf}
-use Rattle.energy.specs.Reading.{Reading, zeroReading, readingInRange, noReading}
+use Rattle.energy.specs.Reading.{Reading, zeroReading, readingInRange, noReading, numberOf}
 
 abbrev pub Rows : Type 0
 Rows = List (List Reading)
@@ -24,3 +24,7 @@ zeroRows = replicate 13 (replicate 5 zeroReading)
 -- The reading of a row and a column.
 unfoldable pub readingAt : Rows → ℕ → ℕ → Reading
 readingAt rows row rate = getD (getD rows row []) rate noReading
+
+-- Its number.
+abbrev pub numberAt : Rows → ℕ → ℕ → ℕ
+numberAt rows row rate = numberOf (readingAt rows row rate)

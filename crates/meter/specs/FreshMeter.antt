@@ -11,7 +11,7 @@ use Rattle.item_address.specs.Address.{Good, isGood}
 use Rattle.item_address.specs.AddressLaws.{good, is-good}
 use Rattle.energy.specs.Reading.{Reading, numberOf, zeroReading, noReading}
 use Rattle.energy.specs.ReadingLaws.{number-zero}
-use Rattle.energy.specs.Energies.{Rows, zeroRows, readingAt}
+use Rattle.energy.specs.Energies.{Rows, zeroRows, readingAt, numberAt}
 use Rattle.meter_counting.specs.declared.HostAnswer.the-variants.{Done, Refused}
 use Rattle.meter_holding.specs.Holding.{valueFor}
 use Rattle.meter_holding.specs.FreshWords.{FreshHolds, fresh-holds}
@@ -20,7 +20,7 @@ use Rattle.meter.specs.Meter.{freshMeter}
 
 -- Every reading is zero.
 abbrev pub ReadsZero : Rows → Type 0
-ReadsZero rows = (row column : ℕ) → numberOf (readingAt rows row column) ≡ 0
+ReadsZero rows = (row column : ℕ) → numberAt rows row column ≡ 0
 
 -- A good address makes a meter of it, any other is refused with 8. Key off, passwords and operator code zero, readings zero, and for each
 -- item what document 01 lists.

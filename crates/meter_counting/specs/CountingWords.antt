@@ -5,16 +5,12 @@ use mathlib.Core.List.{List}
 use mathlib.Core.Bool.{Bool, true, false}
 use lib.ListN.{length}
 use Rattle.laws.specs.All.{AllOf}
-use Rattle.energy.specs.Reading.{Reading, numberOf}
-use Rattle.energy.specs.Energies.{Rows, readingAt}
+use Rattle.energy.specs.Reading.{Reading}
+use Rattle.energy.specs.Energies.{Rows, numberAt}
 use Rattle.energy.specs.declared.Energies.{Energies}
 use Rattle.meter_counting.specs.Counting.{energiesOf, pulsedBy, settledBy}
 use Rattle.meter_counting.specs.declared.HostAnswer.{HostAnswer}
 use Rattle.meter_counting.specs.declared.HostAnswer.the-variants.{Done, Refused}
-
--- The number of the reading at a row and a column.
-abbrev pub number : Rows → ℕ → ℕ → ℕ
-number rows row column = numberOf (readingAt rows row column)
 
 -- A row of five readings, and thirteen of them.
 abbrev pub OfFive : List Reading → Type 0
@@ -26,10 +22,10 @@ pub record Sized (rows : Rows) : Type 0 where
 
 -- A pulse amount is added to row 0's rate and total, each modulo 100,000,000, and to no other reading.
 pub record PulseCounted (amount rate : ℕ) (rows after : Rows) : Type 0 where
-  pub total : number after 0 0 ≡ (number rows 0 0 + amount) % 100000000
-  pub of-rate : number after 0 rate ≡ (number rows 0 rate + amount) % 100000000
-  pub other-columns : (column : ℕ) → (column ≡ 0 → ⊥) → (column ≡ rate → ⊥) → number after 0 column ≡ number rows 0 column
-  pub other-rows : (row column : ℕ) → 1 ≤ row → number after row column ≡ number rows row column
+  pub total : numberAt after 0 0 ≡ (numberAt rows 0 0 + amount) % 100000000
+  pub of-rate : numberAt after 0 rate ≡ (numberAt rows 0 rate + amount) % 100000000
+  pub other-columns : (column : ℕ) → (column ≡ 0 → ⊥) → (column ≡ rate → ⊥) → numberAt after 0 column ≡ numberAt rows 0 column
+  pub other-rows : (row column : ℕ) → 1 ≤ row → numberAt after row column ≡ numberAt rows row column
   pub sized : Sized after
 
 -- A call refused by this number hands both directions back as before.
@@ -54,8 +50,8 @@ pub record PulseIsRight (amount direction rate : ℕ) (within : Bool) (forward r
 
 -- A settlement moves every row down one, drops row 12, and keeps row 0.
 pub record Settled (rows after : Rows) : Type 0 where
-  pub current : (column : ℕ) → number after 0 column ≡ number rows 0 column
-  pub moved : (row column : ℕ) → row ≤ 11 → number after (row + 1) column ≡ number rows row column
+  pub current : (column : ℕ) → numberAt after 0 column ≡ numberAt rows 0 column
+  pub moved : (row column : ℕ) → row ≤ 11 → numberAt after (row + 1) column ≡ numberAt rows row column
   pub sized : Sized after
 
 -- A settlement: 16 for a meter outside its ranges; else both directions settle.

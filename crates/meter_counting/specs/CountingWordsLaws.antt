@@ -13,10 +13,10 @@ use Rattle.laws.specs.AllLaws.{all-take}
 use Rattle.item_range.specs.RangeLaws.{within-iff}
 use Rattle.energy.specs.Reading.{Reading, numberOf, noReading, plusAmount}
 use Rattle.energy.specs.ReadingLaws.{number-plus}
-use Rattle.energy.specs.Energies.{Rows, readingAt}
+use Rattle.energy.specs.Energies.{Rows, readingAt, numberAt}
 use Rattle.meter_counting.specs.Rows.{isRate, pulsedRow, pulsed, settled}
 use Rattle.meter_counting.specs.Counting.{pulsedBy, settledBy}
-use Rattle.meter_counting.specs.CountingWords.{number, OfFive, Sized, PulseCounted, PulseIsRight, Settled, SettleIsRight}
+use Rattle.meter_counting.specs.CountingWords.{OfFive, Sized, PulseCounted, PulseIsRight, Settled, SettleIsRight}
 
 -- The test of a rate says 1 to 4.
 is-rate : (rate : ℕ) → 1 ≤ rate → rate ≤ 4 → isRate rate ≡ true
@@ -50,7 +50,7 @@ pulse-counted amount rate (row ∷ rows) least most sized =
           };
     }
   where
-    others : (r column : ℕ) → 1 ≤ r → number (pulsedRow row amount rate ∷ rows) r column ≡ number (row ∷ rows) r column
+    others : (r column : ℕ) → 1 ≤ r → numberAt (pulsedRow row amount rate ∷ rows) r column ≡ numberAt (row ∷ rows) r column
     others zero column h = absurd (omega arith)
     others (suc r) column h = refl
 

@@ -11,8 +11,7 @@ use Rattle.item.specs.TableWords.{EnergyListed, one, all-t, all-s, forward, rev
 use Rattle.item.specs.declared.table.Item.{Item}
 use Rattle.item.specs.declared.table.Kind.the-variants.{Energy}
 use Rattle.item.specs.declared.table.Lookup.the-variants.{Listed}
-use Rattle.energy.specs.Reading.{numberOf}
-use Rattle.energy.specs.Energies.{Rows, readingAt}
+use Rattle.energy.specs.Energies.{Rows, numberAt}
 use Rattle.energy.specs.RangeLaws.{RowsInRange}
 use Rattle.energy.specs.Columns.{columnsBytes}
 use Rattle.energy.specs.ColumnsLaws.{columns-length}
@@ -23,10 +22,6 @@ use Rattle.meter_holding.specs.Holding.{locationOf, heldAt, valueHeld, v
 pub record DecodeTo (numbers bytes : List ℕ) : Type 0 where
   pub size : length bytes ≡ 4 * length numbers
   pub each : decoded (length numbers) bytes ≡ numbers
-
--- The number of the reading at row s and column t.
-abbrev pub numberAt : Rows → ℕ → ℕ → ℕ
-numberAt rows s t = numberOf (readingAt rows s t)
 
 -- What the bytes of an identifier are, where it is one of the energies whose bytes DI3 and DI2 are those of `front`: of t s the reading at row
 -- s and column t; of FF s those of row s, columns 0 to 4; of t FF those of column t, rows 0 to 12.
