@@ -11,6 +11,7 @@ use lib.Dec.{leb}
 use borrow.Author.Tests.{leb-true}
 use Rattle.laws.specs.AllLaws.{all-take}
 use Rattle.item_range.specs.RangeLaws.{within-iff}
+use Rattle.laws.specs.TestLaws.{not-true}
 use Rattle.energy.specs.Reading.{Reading, numberOf, noReading, plusAmount}
 use Rattle.energy.specs.ReadingLaws.{number-plus}
 use Rattle.energy.specs.Energies.{Rows, readingAt, numberAt}
@@ -58,14 +59,10 @@ pulse-counted amount rate (row ∷ rows) least most sized =
 is-bad : (direction rate : ℕ) → ((direction ≤ 1) × (1 ≤ rate) × (rate ≤ 4) → ⊥) → (leb direction 1 && isRate rate) ≡ false
 unfolding isRate
 is-bad direction rate not-good =
-    fails _
+    not-true _
     (λ e. let both = and-eq-true-iff _ _ .0 e in
     let rates = within-iff 1 4 rate .0 (both .1) in
     not-good (leb-true direction 1 (both .0), rates .0, rates .1))
-  where
-    fails : (t : Bool) → (t ≡ true → ⊥) → t ≡ false
-    fails true h = absurd (h refl)
-    fails false h = refl
 
 -- A pulse does what its words say.
 pub pulse-words : (amount direction rate : ℕ) (within : Bool) (forward reverse : Rows) → Sized forward → Sized reverse
