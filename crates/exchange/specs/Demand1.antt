@@ -38,12 +38,13 @@ use Rattle.meter.specs.Meter.{freshMeter, withinRanges}
 use Rattle.meter_counting.specs.Rows.{isRate}
 use Rattle.meter_counting.specs.Counting as counting
 use Rattle.meter.specs.Host.{created, keySet, pulsedBy, settledBy}
+use Rattle.meter.specs.HostLaws.{pulse-leaves-meter, settle-leaves-meter}
 use Rattle.meter_counting.specs.Counting.{energiesOf}
 use Rattle.meter.specs.Answer.{answered, delivered as replied}
 use Rattle.meter.specs.AnswerLaws.{Answers, refuses, errs, carries, answers, not-replied}
 use Rattle.meter.specs.declared.Meter.{Meter}
 use Rattle.meter.specs.declared.KeySet.{KeySet}
-use Rattle.meter_counting.specs.declared.Counted.{Counted}
+use Rattle.meter_counting.specs.declared.CountedReadings.{CountedReadings}
 use Rattle.meter_counting.specs.declared.HostAnswer.the-variants as host
 use Rattle.meter.specs.declared.FrameAnswer.{FrameAnswer}
 use Rattle.meter.specs.declared.FrameAnswer.the-variants as frames
@@ -70,9 +71,10 @@ pub record RefusalsChangeNothing : Type 0 where
       → LeftAlone m (keySet on m forward reverse .meter)
   pub pulse : (amount direction rate : ℕ) (m : Meter) (forward reverse : Rows) (n : ℕ)
       → pulsedBy amount direction rate m forward reverse .answer ≡ host.Refused n
-      → LeftAlone (energiesOf forward reverse) (pulsedBy amount direction rate m forward reverse .energies)
+      → LeftAlone m (pulsedBy amount direction rate m forward reverse .meter)
+      × LeftAlone (energiesOf forward reverse) (pulsedBy amount direction rate m forward reverse .energies)
   pub settle : (m : Meter) (forward reverse : Rows) (n : ℕ) → settledBy m forward reverse .answer ≡ host.Refused n
-      → LeftAlone (energiesOf forward reverse) (settledBy m forward reverse .energies)
+      → LeftAlone m (settledBy m forward reverse .meter) × LeftAlone (energiesOf forward reverse) (settledBy m forward reverse .energies)
   -- A pulse and a settlement counted, whatever the caller says of the ranges.
   pub count-pulse : (amount direction rate : ℕ) (within : Bool) (forward reverse : Rows) (n : ℕ)
       → counting.pulsedBy amount direction rate within forward reverse .answer ≡ host.Refused n
@@ -132,7 +134,7 @@ key-kept on m forward reverse n =
     (λ _ e. refl)
 
 -- Readings that come back with a refusal are those that were given.
-abbrev ReadingsKept : Rows → Rows → ℕ → Counted → Type 0
+abbrev ReadingsKept : Rows → Rows → ℕ → CountedReadings → Type 0
 ReadingsKept forward reverse n c = c .answer ≡ host.Refused n → LeftAlone (energiesOf forward reverse) (c .energies)
 
 pulse-kept : (amount direction rate : ℕ) (within : Bool) (forward reverse : Rows) (n : ℕ)
@@ -146,7 +148,7 @@ pulse-kept amount direction rate within forward reverse n =
     (λ _ e. refl))
     (λ _ e. refl)
   where
-    P : Counted → Type 0
+    P : CountedReadings → Type 0
     P = ReadingsKept forward reverse n
 
 settle-kept : (within : Bool) (forward reverse : Rows) (n : ℕ) → ReadingsKept forward reverse n (counting.settledBy within forward reverse)
@@ -265,8 +267,14 @@ demand-1 =
       receiver = receiver-kept;
       fresh-meter = fresh-out-of-range;
       set-key = key-kept;
-      pulse = λ amount direction rate m forward reverse. pulse-kept amount direction rate (withinRanges m forward reverse) forward reverse;
-      settle = λ m forward reverse. settle-kept (withinRanges m forward reverse) forward reverse;
+      pulse = λ amount direction rate m forward reverse n e. (
+        pulse-leaves-meter m forward reverse amount direction rate,
+        pulse-kept amount direction rate (withinRanges m forward reverse) forward reverse n e,
+      );
+      settle = λ m forward reverse n e. (
+        settle-leaves-meter m forward reverse,
+        settle-kept (withinRanges m forward reverse) forward reverse n e,
+      );
       count-pulse = pulse-kept;
       count-settle = settle-kept;
       frame = frame-kept;
