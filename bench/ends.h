@@ -77,9 +77,10 @@ struct meter_set {
     uint8_t refusal;
 };
 
-struct readings {
+struct meter_counted {
     struct energies energies;
     uint8_t refusal;
+    struct meter meter;
 };
 
 struct exchange_done {
@@ -95,9 +96,9 @@ struct exchange_done {
     struct meter_answer name##_answer(struct meter meter, struct energies energies, const uint8_t *bytes, size_t count, \
                                       uint8_t *out, size_t out_len); \
     struct meter_set name##_set_key(struct meter meter, struct energies energies, bool on); \
-    struct readings name##_pulse(struct meter meter, struct energies energies, uint32_t amount, uint8_t direction, \
-                                 uint8_t rate); \
-    struct readings name##_settle(struct meter meter, struct energies energies); \
+    struct meter_counted name##_pulse(struct meter meter, struct energies energies, uint32_t amount, uint8_t direction, \
+                                      uint8_t rate); \
+    struct meter_counted name##_settle(struct meter meter, struct energies energies); \
     struct written name##_build(struct request request, uint8_t *out, size_t out_len); \
     struct judgement name##_judge(struct request request, const uint8_t *bytes, size_t count, uint8_t *out, \
                                   size_t out_len); \

@@ -27,17 +27,17 @@ OPERATION struct meter_set set_key_by_value(struct meter meter, struct energies 
     return (struct meter_set){meter, refusal};
 }
 
-OPERATION struct readings pulse_by_value(struct meter meter, struct energies energies, uint32_t amount,
-                                         uint8_t direction, uint8_t rate)
+OPERATION struct meter_counted pulse_by_value(struct meter meter, struct energies energies, uint32_t amount,
+                                              uint8_t direction, uint8_t rate)
 {
     uint8_t refusal = pulse(&meter, &energies, amount, direction, rate);
-    return (struct readings){energies, refusal};
+    return (struct meter_counted){energies, refusal, meter};
 }
 
-OPERATION struct readings settle_by_value(struct meter meter, struct energies energies)
+OPERATION struct meter_counted settle_by_value(struct meter meter, struct energies energies)
 {
     uint8_t refusal = settle_rows(&meter, &energies);
-    return (struct readings){energies, refusal};
+    return (struct meter_counted){energies, refusal, meter};
 }
 
 OPERATION struct written build_by_value(struct request request, uint8_t *out, size_t out_len)
@@ -98,13 +98,13 @@ struct meter_set NAMED(ENDS, set_key)(struct meter meter, struct energies energi
     return set_key_by_value(meter, energies, on);
 }
 
-struct readings NAMED(ENDS, pulse)(struct meter meter, struct energies energies, uint32_t amount, uint8_t direction,
-                                   uint8_t rate)
+struct meter_counted NAMED(ENDS, pulse)(struct meter meter, struct energies energies, uint32_t amount,
+                                        uint8_t direction, uint8_t rate)
 {
     return pulse_by_value(meter, energies, amount, direction, rate);
 }
 
-struct readings NAMED(ENDS, settle)(struct meter meter, struct energies energies)
+struct meter_counted NAMED(ENDS, settle)(struct meter meter, struct energies energies)
 {
     return settle_by_value(meter, energies);
 }

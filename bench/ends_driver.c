@@ -58,10 +58,11 @@ static void perform_set_key(const struct implementation *by, const struct call *
 
 static void perform_count(const struct implementation *by, const struct call *call, struct outcome *left)
 {
-    struct readings counted =
+    struct meter_counted counted =
         call->operation == SETTLE
             ? by->settle(call->meter, call->energies)
             : by->pulse(call->meter, call->energies, call->amount, call->direction, call->rate);
+    left->meter = counted.meter;
     left->energies = counted.energies;
     left->which = counted.refusal;
 }

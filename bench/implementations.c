@@ -15,16 +15,16 @@
         uint8_t refusal = name##_set_key(&meter, &energies, on); \
         return (struct meter_set){meter, refusal}; \
     } \
-    static struct readings name##_pulse_handed_back(struct meter meter, struct energies energies, uint32_t amount, \
-                                                    uint8_t direction, uint8_t rate) \
+    static struct meter_counted name##_pulse_handed_back(struct meter meter, struct energies energies, uint32_t amount, \
+                                                         uint8_t direction, uint8_t rate) \
     { \
         uint8_t refusal = name##_pulse(&meter, &energies, amount, direction, rate); \
-        return (struct readings){energies, refusal}; \
+        return (struct meter_counted){energies, refusal, meter}; \
     } \
-    static struct readings name##_settle_handed_back(struct meter meter, struct energies energies) \
+    static struct meter_counted name##_settle_handed_back(struct meter meter, struct energies energies) \
     { \
         uint8_t refusal = name##_settle(&meter, &energies); \
-        return (struct readings){energies, refusal}; \
+        return (struct meter_counted){energies, refusal, meter}; \
     } \
     static struct written name##_build_handed_back(struct request request, uint8_t *out, size_t out_len) \
     { \

@@ -190,8 +190,9 @@ static void run_pulse(struct state *state, const char *text)
 {
     uint32_t numbers[3];
     read_numbers(text, numbers, 3);
-    struct readings counted = state->implementation->pulse(state->meter, state->energies, numbers[0], byte_of(numbers[1]),
-                                                           byte_of(numbers[2]));
+    struct meter_counted counted = state->implementation->pulse(state->meter, state->energies, numbers[0],
+                                                                byte_of(numbers[1]), byte_of(numbers[2]));
+    state->meter = counted.meter;
     state->energies = counted.energies;
     write_done(state->out, counted.refusal);
 }
@@ -199,7 +200,8 @@ static void run_pulse(struct state *state, const char *text)
 static void run_settle(struct state *state, const char *text)
 {
     (void)text;
-    struct readings counted = state->implementation->settle(state->meter, state->energies);
+    struct meter_counted counted = state->implementation->settle(state->meter, state->energies);
+    state->meter = counted.meter;
     state->energies = counted.energies;
     write_done(state->out, counted.refusal);
 }

@@ -8,7 +8,7 @@ use Rattle.meter.specs.declared.Answered.{Answered}
 use Rattle.meter.specs.declared.KeySet.{KeySet}
 use Rattle.meter.specs.declared.FrameAnswer.{FrameAnswer}
 use Rattle.meter.specs.declared.FrameAnswer.the-variants as frames
-use Rattle.meter_counting.specs.declared.Counted.{Counted}
+use Rattle.meter.specs.declared.Counted.{Counted}
 use Rattle.meter_counting.specs.declared.HostAnswer.{HostAnswer}
 use Rattle.meter_counting.specs.declared.HostAnswer.the-variants as host
 use Rattle.reader.specs.declared.Request.{Request}
@@ -20,7 +20,7 @@ use Rattle.reader_judgement.specs.declared.Judgement.{Judgement}
 use Rattle.reader_judgement.specs.declared.Judgement.the-variants as judging
 use Rattle.call_ends.specs.declared.MeterAnswer.{MeterAnswer}
 use Rattle.call_ends.specs.declared.MeterSet.{MeterSet}
-use Rattle.call_ends.specs.declared.Readings.{Readings}
+use Rattle.call_ends.specs.declared.MeterCounted.{MeterCounted}
 use Rattle.call_ends.specs.declared.RequestBuilt.{RequestBuilt}
 use Rattle.call_ends.specs.declared.ReplyJudged.{ReplyJudged}
 use Rattle.call_ends.specs.declared.request.AskedRequest.{AskedRequest}
@@ -37,8 +37,8 @@ refusalOf (host.Refused n) = n
 abbrev pub meterSetOf : KeySet → MeterSet
 meterSetOf set = record { meter = set .meter; refusal = refusalOf (set .answer) }
 
-abbrev pub readingsOf : Counted → Readings
-readingsOf counted = record { energies = counted .energies; refusal = refusalOf (counted .answer) }
+abbrev pub meterCountedOf : Counted → MeterCounted
+meterCountedOf counted = record { meter = counted .meter; energies = counted .energies; refusal = refusalOf (counted .answer) }
 
 -- The answer to a frame: a refusal, or 0 and the reply's length.
 abbrev pub meterAnswerBy : Meter → FrameAnswer → MeterAnswer

@@ -3,9 +3,9 @@ pub mod request;
 
 use energy::Energies;
 use meter::Answered;
+use meter::Counted;
 use meter::FrameAnswer;
 use meter::Meter;
-use meter_counting::Counted;
 use meter_counting::HostAnswer;
 use reader::Built;
 use reader_judgement::Judgement;
@@ -16,7 +16,7 @@ ghost use Rattle.meter.specs.Host.{keySet, pulsedBy, settledBy};
 ghost use Rattle.meter.specs.Answer.{answered};
 ghost use Rattle.reader.specs.Building.{built};
 ghost use Rattle.reader.specs.Judging.{judged};
-ghost use Rattle.call_ends.specs.Numbers.{told, refusalOf, meterSetOf, readingsOf, meterAnswerOf, requestBuiltOf, replyJudgedOf, requestOf};
+ghost use Rattle.call_ends.specs.Numbers.{told, refusalOf, meterSetOf, meterCountedOf, meterAnswerOf, requestBuiltOf, replyJudgedOf, requestOf};
 
 // The number of an answer that is no refusal.
 const DONE: u8 = 0;
@@ -43,11 +43,13 @@ pub struct MeterSet {
     pub refusal: u8,
 }
 
-// The readings after a pulse or a settlement, with a refusal, or 0.
+// The meter and its readings after a pulse or a settlement, with a refusal, or 0. The readings stand first and the refusal behind them: where
+// the meter stands first, the readings are copied once more.
 #[repr(C)]
-pub struct Readings {
+pub struct MeterCounted {
     pub energies: Energies,
     pub refusal: u8,
+    pub meter: Meter,
 }
 
 // A refusal, or 0 and the request's length.
@@ -74,15 +76,17 @@ fn refusal_of(answer: HostAnswer) -> u8
     }
 }
 
-// Readings as a call hands them back.
-fn readings_of(counted: Counted) -> Readings
-    ensures { λ r. ⌜ r ≡ readingsOf counted ⌝ }
+// A meter and its readings as a call hands them back.
+fn counted_of(counted: Counted) -> MeterCounted
+    ensures { λ r. ⌜ r ≡ meterCountedOf counted ⌝ }
 {
+    let meter = counted.meter;
     let energies = counted.energies;
     let answer = counted.answer;
-    Readings {
+    MeterCounted {
         energies,
         refusal: refusal_of(answer),
+        meter,
     }
 }
 
@@ -174,10 +178,10 @@ pub extern "C" fn call_pulse(
     amount: u32,
     direction: u8,
     rate: u8,
-) -> Readings
-    ensures { λ r. ⌜ r ≡ readingsOf (pulsedBy amount direction rate meter (energies .forward) (energies .reverse)) ⌝ }
+) -> MeterCounted
+    ensures { λ r. ⌜ r ≡ meterCountedOf (pulsedBy amount direction rate meter (energies .forward) (energies .reverse)) ⌝ }
 {
-    readings_of(meter.pulse(
+    counted_of(meter.pulse(
         energies.forward_rows(),
         energies.reverse_rows(),
         amount,
@@ -188,12 +192,12 @@ pub extern "C" fn call_pulse(
 
 // A settlement, by `meter::Meter::settle`.
 #[no_mangle]
-pub extern "C" fn call_settle(meter: Meter, energies: Energies) -> Readings
-    ensures { λ r. ⌜ r ≡ readingsOf (settledBy meter (energies .forward) (energies .reverse)) ⌝ }
+pub extern "C" fn call_settle(meter: Meter, energies: Energies) -> MeterCounted
+    ensures { λ r. ⌜ r ≡ meterCountedOf (settledBy meter (energies .forward) (energies .reverse)) ⌝ }
 {
     let forward = energies.forward_rows();
     let reverse = energies.reverse_rows();
-    readings_of(meter.settle(forward, reverse))
+    counted_of(meter.settle(forward, reverse))
 }
 
 // A request built, by `reader::Request::build`.

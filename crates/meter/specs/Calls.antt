@@ -12,17 +12,17 @@ use Rattle.item_decimal.specs.Decimal.{isDecimal, firstBadFrom, firstBad, allDe
 use Rattle.item_decimal.specs.DecimalLaws.{all-decimal}
 use Rattle.laws.specs.TestLaws.{pick-cases}
 use Rattle.energy.specs.Energies.{Rows, zeroRows}
-use Rattle.meter.specs.Meter.{withKey, freshMeter}
+use Rattle.meter.specs.Meter.{withKey, freshMeter, withinRanges}
 use Rattle.meter.specs.Ranges.{InRanges, within-ranges, ranges-again, untouched-ranges}
 use Rattle.energy.specs.RangeLaws.{RowsInRange, zero-rows-in-range}
 use Rattle.meter_counting.specs.Rows.{isRate}
 use Rattle.meter_counting.specs.RowsLaws.{pulsed-in-range, settled-in-range}
 use Rattle.meter_counting.specs.Counting as counting
-use Rattle.meter.specs.Host.{created, keySet, pulsedBy, settledBy}
+use Rattle.meter.specs.Host.{created, keySet, countedWith, pulsedBy, settledBy}
 use Rattle.meter.specs.Answer.{delivered, answered}
 use Rattle.meter.specs.MeterAfterLaws.{ranges-after}
 use Rattle.meter.specs.AnswerLaws.{Answers, refuses, errs, carries, answers}
-use Rattle.meter_counting.specs.declared.Counted.{Counted}
+use Rattle.meter_counting.specs.declared.CountedReadings.{CountedReadings}
 use Rattle.meter.specs.declared.Meter.{Meter}
 use Rattle.meter_counting.specs.declared.HostAnswer.{HostAnswer}
 use Rattle.meter_counting.specs.declared.HostAnswer.the-variants as host
@@ -47,10 +47,10 @@ unfoldable pub after : MeterCall → State → State
 after (key on) s = record { meter = keySet on (s .meter) (s .forward) (s .reverse) .meter; forward = s .forward; reverse = s .reverse }
 after (pulse amount direction rate) s =
     let c = pulsedBy amount direction rate (s .meter) (s .forward) (s .reverse) in
-    record { meter = s .meter; forward = c .energies .forward; reverse = c .energies .reverse }
+    record { meter = c .meter; forward = c .energies .forward; reverse = c .energies .reverse }
 after settle s =
     let c = settledBy (s .meter) (s .forward) (s .reverse) in
-    record { meter = s .meter; forward = c .energies .forward; reverse = c .energies .reverse }
+    record { meter = c .meter; forward = c .energies .forward; reverse = c .energies .reverse }
 after (frame bytes memory) s =
     record { meter = answered bytes (s .meter) (s .forward) (s .reverse) memory .answer .meter; forward = s .forward; reverse = s .reverse }
 
@@ -95,10 +95,11 @@ module _ (m : Meter) (forward reverse : Rows) (h : InRanges m forward reverse) w
   readings-again : {f r : Rows} → RowsInRange f → RowsInRange r → InRanges m f r
   readings-again f r = record { address = h .address; registers = h .registers; forward-readings = f; reverse-readings = r }
 
-  abbrev CountedKept : Counted → Type 0
-  CountedKept c = Kept m (c .energies .forward) (c .energies .reverse) (c .answer ≡ host.Refused outOfRange)
+  abbrev CountedKept : CountedReadings → Type 0
+  CountedKept readings =
+      let c = countedWith m readings in Kept (c .meter) (c .energies .forward) (c .energies .reverse) (c .answer ≡ host.Refused outOfRange)
 
-  pulse-kept : (amount direction rate : ℕ) → CountedKept (pulsedBy amount direction rate m forward reverse)
+  pulse-kept : (amount direction rate : ℕ) → CountedKept (counting.pulsedBy amount direction rate (withinRanges m forward reverse) forward reverse)
   unfolding counting.pulsedBy
   pulse-kept amount direction rate =
       rw (within-ranges m forward reverse .1 h)
@@ -108,7 +109,7 @@ module _ (m : Meter) (forward reverse : Rows) (h : InRanges m forward reverse) w
       (λ _. (readings-again (h .forward-readings) (pulsed-in-range reverse amount rate (h .reverse-readings)), λ r. omega (arith, ap hostNumber r))))
       (λ _. (h, λ r. omega (arith, ap hostNumber r))))
 
-  settle-kept : CountedKept (settledBy m forward reverse)
+  settle-kept : CountedKept (counting.settledBy (withinRanges m forward reverse) forward reverse)
   unfolding counting.settledBy
   settle-kept =
       rw (within-ranges m forward reverse .1 h)

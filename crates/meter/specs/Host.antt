@@ -12,7 +12,8 @@ use Rattle.meter.specs.Meter.{freshMeter, withKey, withinRanges}
 use Rattle.meter.specs.declared.Meter.{Meter}
 use Rattle.meter.specs.declared.Created.{Created}
 use Rattle.meter.specs.declared.KeySet.{KeySet}
-use Rattle.meter_counting.specs.declared.Counted.{Counted}
+use Rattle.meter.specs.declared.Counted.{Counted}
+use Rattle.meter_counting.specs.declared.CountedReadings.{CountedReadings}
 use Rattle.meter_counting.specs.declared.HostAnswer.{HostAnswer}
 use Rattle.meter_counting.specs.declared.HostAnswer.the-variants.{Done, Refused}
 
@@ -33,9 +34,14 @@ unfoldable pub keySet : Bool → Meter → Rows → Rows → KeySet
 keySet on m forward reverse =
     pick (withinRanges m forward reverse) (keyGiven (withKey on m) Done) (keyGiven m (Refused outOfRange))
 
+-- What was counted, with the meter that it was counted at.
+abbrev pub countedWith : Meter → CountedReadings → Counted
+countedWith m c = record { meter = m; energies = c .energies; answer = c .answer }
+
 -- A pulse, with 16 and then 8, and a settlement, with 16, of a meter's readings.
 abbrev pub pulsedBy : ℕ → ℕ → ℕ → Meter → Rows → Rows → Counted
-pulsedBy amount direction rate m forward reverse = counting.pulsedBy amount direction rate (withinRanges m forward reverse) forward reverse
+pulsedBy amount direction rate m forward reverse =
+    countedWith m (counting.pulsedBy amount direction rate (withinRanges m forward reverse) forward reverse)
 
 abbrev pub settledBy : Meter → Rows → Rows → Counted
-settledBy m forward reverse = counting.settledBy (withinRanges m forward reverse) forward reverse
+settledBy m forward reverse = countedWith m (counting.settledBy (withinRanges m forward reverse) forward reverse)

@@ -1,6 +1,7 @@
 pub mod Meter
 pub mod MeterLaws
 pub mod Host
+pub mod HostLaws
 pub mod Answer
 pub mod Ranges
 pub mod MeterAfterLaws

@@ -1,6 +1,6 @@
 // A meter of DL/T 645-2007: document 01, "What the meter holds" and "How the meter treats a frame". Every operation takes the
 // meter and both directions' readings by value, refuses with 16 what is outside document 01's ranges before anything else,
-// and hands back what it changed.
+// and hands the meter back, with the readings where it counts in them.
 mod answer;
 mod change;
 
@@ -15,14 +15,14 @@ use frame::refusal::NOT_ONE_FRAME;
 use frame::refusal::OUT_OF_RANGE;
 use frame::refusal::SHORT_MEMORY;
 use item_address::is_good;
-use meter_counting::Counted;
+use meter_counting::CountedReadings;
 use meter_counting::HostAnswer;
 use meter_holding::fresh_registers;
 use meter_holding::within_ranges;
 ghost use mathlib.Core.Path.{_≡_};
 ghost use Rattle.laws.specs.Memory.{outcome};
 ghost use Rattle.meter.specs.Meter.{withinRanges};
-ghost use Rattle.meter.specs.Host.{created, keySet, pulsedBy, settledBy};
+ghost use Rattle.meter.specs.Host.{created, keySet, countedWith, pulsedBy, settledBy};
 ghost use Rattle.meter.specs.Answer.{answered};
 
 // What a meter holds besides its readings; laid out as C has it, for `call_ends`.
@@ -53,6 +53,14 @@ pub struct KeySet {
     pub answer: HostAnswer,
 }
 
+// The meter and its readings after a pulse or a settlement. The answer stands between the two: side by side they are copied as one, and the
+// readings once more.
+pub struct Counted {
+    pub meter: Meter,
+    pub answer: HostAnswer,
+    pub energies: Energies,
+}
+
 // The answer to a frame.
 pub enum FrameAnswer {
     // The length of the reply that stands at the front of the output buffer.
@@ -74,6 +82,19 @@ fn in_ranges(meter: Meter, forward: &Rows, reverse: &Rows) -> bool
     let address = meter.address;
     let registers = meter.registers;
     within_ranges(address, registers, forward, reverse)
+}
+
+// What was counted, with the meter that it was counted at.
+fn counted_with(meter: Meter, counted: CountedReadings) -> Counted
+    ensures { λ r. ⌜ r ≡ countedWith meter counted ⌝ }
+{
+    let energies = counted.energies;
+    let answer = counted.answer;
+    Counted {
+        meter,
+        answer,
+        energies,
+    }
 }
 
 impl Meter {
@@ -141,7 +162,8 @@ impl Meter {
         ensures { λ r. ⌜ r ≡ pulsedBy amount direction rate self forward reverse ⌝ }
     {
         let within = in_ranges(self, &forward, &reverse);
-        meter_counting::pulse(within, forward, reverse, amount, direction, rate)
+        let counted = meter_counting::pulse(within, forward, reverse, amount, direction, rate);
+        counted_with(self, counted)
     }
 
     // Moves every row of both directions down one and keeps row 0. Refused with 16.
@@ -149,7 +171,8 @@ impl Meter {
         ensures { λ r. ⌜ r ≡ settledBy self forward reverse ⌝ }
     {
         let within = in_ranges(self, &forward, &reverse);
-        meter_counting::settle(within, forward, reverse)
+        let counted = meter_counting::settle(within, forward, reverse);
+        counted_with(self, counted)
     }
 
     // Answers a frame with a reply at the front of the output buffer, which stays as it was beyond it. Refused with 16, 1, 2,

@@ -19,16 +19,16 @@ pub enum HostAnswer {
 }
 
 // The readings after a pulse or a settlement.
-pub struct Counted {
+pub struct CountedReadings {
     pub energies: Energies,
     pub answer: HostAnswer,
 }
 
 // The readings that a host call hands back.
-fn with_answer(forward: Rows, reverse: Rows, answer: HostAnswer) -> Counted
+fn with_answer(forward: Rows, reverse: Rows, answer: HostAnswer) -> CountedReadings
     ensures { λ r. ⌜ r ≡ counted forward reverse answer ⌝ }
 {
-    Counted {
+    CountedReadings {
         energies: Energies::new(forward, reverse),
         answer,
     }
@@ -82,7 +82,7 @@ pub fn pulse(
     amount: u32,
     direction: u8,
     rate: u8,
-) -> Counted
+) -> CountedReadings
     ensures { λ r. ⌜ r ≡ pulsedBy amount direction rate within forward reverse ⌝ }
 {
     let good = (direction <= 1) & rows::is_rate(rate);
@@ -95,7 +95,7 @@ pub fn pulse(
 }
 
 // Moves every row of both directions down one and keeps row 0. Refused with 16.
-pub fn settle(within: bool, forward: Rows, reverse: Rows) -> Counted
+pub fn settle(within: bool, forward: Rows, reverse: Rows) -> CountedReadings
     ensures { λ r. ⌜ r ≡ settledBy within forward reverse ⌝ }
 {
     with_answer(

@@ -2,8 +2,8 @@
 use energy::Energies;
 use energy::Rows;
 use energy::reading;
+use meter::Counted;
 use meter::Meter;
-use meter_counting::Counted;
 use reader::Request;
 use run_script_answers::asked;
 use run_script_answers::asked::request_of;
@@ -115,8 +115,9 @@ impl State {
     fn counted(self, counted: Counted) -> State {
         let answer = counted.answer;
         write_answer(answer);
+        let meter = counted.meter;
         let energies = counted.energies;
-        self.with_energies(energies)
+        self.with_meter(meter).with_energies(energies)
     }
 
     // After a pulse of an amount, in a direction and at a rate.

@@ -6,7 +6,7 @@ use Rattle.call_ends.proofs.call_pulse.Tie as tie
 returns : tie.Need-returns
 returns c =
     let rows = c .before .before in
-    rw (c .readings-of .ensures, c .before .pulse .ensures, rows .reverse-rows .ensures, rows .before .forward-rows .ensures)
+    rw (c .counted-of .ensures, c .before .pulse .ensures, rows .reverse-rows .ensures, rows .before .forward-rows .ensures)
 
 pub call-pulse-spec : {M : Type 1} → statement M
 call-pulse-spec =
