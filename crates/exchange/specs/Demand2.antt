@@ -10,6 +10,8 @@ use Rattle.meter.specs.Meter.{MeterSized}
 use Rattle.meter.specs.FrameTerms.{FrameIsRight}
 use Rattle.meter.specs.FrameRight.{frame-is-right}
 use Rattle.meter.specs.FreshMeter.{FreshIsRight, fresh-is-right}
+use Rattle.meter.specs.HostWords.{HostIsRight, host-is-right}
+use Rattle.meter_counting.specs.CountingWords.{Sized}
 use Rattle.meter.specs.Ranges.{InRanges}
 use Rattle.meter.specs.declared.Meter.{Meter}
 use Rattle.reader.specs.Allowed.{RequestSized, isAllowed}
@@ -67,8 +69,9 @@ pub record AnswersAsAsked : Type 0 where
   -- The meter's end, of any bytes: a write sets the one register that it names, and the operator code beside it, exactly when every listed check
   -- holds; otherwise nothing moves; foreign frames get silence; and so on through document 01's table.
   pub frame : (bytes : List ℕ) (m : Meter) (forward reverse : Rows) (memory : List ℕ) → MeterSized m → FrameIsRight bytes m forward reverse memory
-  -- A fresh meter holds what document 01 lists.
+  -- A fresh meter holds what document 01 lists, and the host's calls do what it says.
   pub fresh : (address : List ℕ) → FreshIsRight address
+  pub host : (m : Meter) (forward reverse : Rows) → Sized forward → Sized reverse → HostIsRight m forward reverse
   -- The reader's end: the bytes of a request, and what is made of any bytes that come back.
   pub build : (request : Request) (m : List ℕ) → RequestSized request → BuildIsRight request m
   pub reply : (request : Request) (bytes m : List ℕ) → RequestSized request → Judges request bytes m
@@ -81,6 +84,7 @@ demand-2 =
       not-sent = exchange-refuses;
       frame = frame-is-right;
       fresh = fresh-is-right;
+      host = host-is-right;
       build = build-words;
       reply = judge-words;
     }

@@ -1,7 +1,6 @@
 pub mod Meter
 pub mod MeterLaws
 pub mod Host
-pub mod HostLaws
 pub mod Answer
 pub mod Ranges
 pub mod MeterAfterLaws
@@ -16,4 +15,5 @@ pub mod FrameRight
 pub mod Replies
 pub mod Calls
 pub mod FreshMeter
+pub mod HostWords
 pub mod Said

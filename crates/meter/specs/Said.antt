@@ -3,17 +3,20 @@ use Prim.Native.Nat.{ℕ}
 use mathlib.Core.Path.{_≡_, refl}
 use mathlib.Core.List.{List, [], _∷_}
 use mathlib.Core.Bool.{Bool, true, false, _&&_}
+use Rattle.laws.specs.Memory.{LeftAlone}
 use Rattle.laws.specs.Said.{Said, values, refusal, IsRefusal, AsBefore}
 use Rattle.laws.specs.Test.{pick}
 use Rattle.laws.specs.TestLaws.{pick-cases}
 use Rattle.frame.specs.Refusals.{badArgument}
 use Rattle.item_address.specs.Address.{isGood}
 use Rattle.energy.specs.Energies.{Rows}
+use Rattle.meter_counting.specs.Counting.{energiesOf}
+use Rattle.meter_counting.specs.Said as counting
 use Rattle.meter_counting.specs.Said.{hostSaid}
 use Rattle.meter_counting.specs.declared.HostAnswer.the-variants as host
 use Rattle.meter_holding.specs.Holding as holding
 use Rattle.meter.specs.Meter.{freshMeter, withinRanges}
-use Rattle.meter.specs.Host.{created, keySet}
+use Rattle.meter.specs.Host.{created, keySet, pulsedBy, settledBy}
 use Rattle.meter.specs.Answer.{delivered, answered}
 use Rattle.meter.specs.AnswerLaws.{Answers, refuses, errs, carries, answers}
 use Rattle.meter.specs.declared.FrameAnswer.{FrameAnswer}
@@ -41,6 +44,17 @@ pub key-as-before : (on : Bool) (m : Meter) (forward reverse : Rows)
 unfolding keySet
 key-as-before on m forward reverse =
     pick-cases (λ (k : KeySet). AsBefore (hostSaid (k .answer)) m (k .meter)) (withinRanges m forward reverse) (λ _ r. absurd r) (λ _ r. refl)
+
+-- A pulse and a settlement count in the readings alone: whatever they answer, the meter comes back as it was, and with a refusal the readings do.
+pub pulse-as-before : (amount direction rate : ℕ) (m : Meter) (forward reverse : Rows)
+    → let c = pulsedBy amount direction rate m forward reverse in
+    LeftAlone m (c .meter) × AsBefore (hostSaid (c .answer)) (energiesOf forward reverse) (c .energies)
+pulse-as-before amount direction rate m forward reverse =
+    (refl, counting.pulse-as-before amount direction rate (withinRanges m forward reverse) forward reverse)
+
+pub settle-as-before : (m : Meter) (forward reverse : Rows)
+    → let c = settledBy m forward reverse in LeftAlone m (c .meter) × AsBefore (hostSaid (c .answer)) (energiesOf forward reverse) (c .energies)
+settle-as-before m forward reverse = (refl, counting.settle-as-before (withinRanges m forward reverse) forward reverse)
 
 pub frame-as-before : (bytes : List ℕ) (m : Meter) (forward reverse : Rows) (memory : List ℕ)
     → let o = answered bytes m forward reverse memory in let said = frameSaid (o .answer .answer) in

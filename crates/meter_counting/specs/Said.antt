@@ -9,7 +9,7 @@ use Rattle.laws.specs.TestLaws.{pick-cases}
 use Rattle.energy.specs.Energies.{Rows}
 use Rattle.meter_counting.specs.Counting.{energiesOf, pulsedBy, settledBy}
 use Rattle.meter_counting.specs.Rows.{isRate}
-use Rattle.meter_counting.specs.declared.Counted.{Counted}
+use Rattle.meter_counting.specs.declared.CountedReadings.{CountedReadings}
 use Rattle.meter_counting.specs.declared.HostAnswer.{HostAnswer}
 use Rattle.meter_counting.specs.declared.HostAnswer.the-variants.{Done, Refused}
 
@@ -18,7 +18,7 @@ hostSaid Done = values []
 hostSaid (Refused n) = refusal n
 
 -- Readings that come back with a refusal are those that were given.
-abbrev pub ReadingsAsBefore : Rows → Rows → Counted → Type 0
+abbrev pub ReadingsAsBefore : Rows → Rows → CountedReadings → Type 0
 ReadingsAsBefore forward reverse c = AsBefore (hostSaid (c .answer)) (energiesOf forward reverse) (c .energies)
 
 pub pulse-as-before : (amount direction rate : ℕ) (within : Bool) (forward reverse : Rows)
@@ -29,7 +29,7 @@ pulse-as-before amount direction rate within forward reverse =
     (λ _. pick-cases P (leb direction 1 && isRate rate) (λ _. pick-cases P (eqb direction 0) (λ _ r. absurd r) (λ _ r. absurd r)) (λ _ r. refl))
     (λ _ r. refl)
   where
-    P : Counted → Type 0
+    P : CountedReadings → Type 0
     P = ReadingsAsBefore forward reverse
 
 pub settle-as-before : (within : Bool) (forward reverse : Rows) → ReadingsAsBefore forward reverse (settledBy within forward reverse)

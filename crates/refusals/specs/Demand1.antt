@@ -31,14 +31,16 @@ use Rattle.item.specs.declared.table.Item.{Item}
 use Rattle.item.specs.declared.table.Lookup.the-variants.{Listed}
 use Rattle.energy.specs.Energies.{Rows}
 use Rattle.meter_counting.specs.Counting as counting
-use Rattle.meter_counting.specs.Said.{hostSaid, ReadingsAsBefore, pulse-as-before, settle-as-before}
+use Rattle.meter_counting.specs.Counting.{energiesOf}
+use Rattle.meter_counting.specs.Said as counting-said
+use Rattle.meter_counting.specs.Said.{hostSaid, ReadingsAsBefore}
 use Rattle.meter_holding.specs.Holding.{locationOf, valueWritten, registersAfter}
 use Rattle.meter_holding.specs.Said.{heldSaid, value-as-before, registers-as-before}
 use Rattle.meter_holding.specs.declared.location.Location.the-variants.{Register}
 use Rattle.meter.specs.Meter.{MeterSized, withinRanges}
 use Rattle.meter.specs.Host.{created, keySet, pulsedBy, settledBy}
 use Rattle.meter.specs.Answer.{answered}
-use Rattle.meter.specs.Said.{frameSaid, fresh-refused, key-as-before, frame-as-before}
+use Rattle.meter.specs.Said.{frameSaid, fresh-refused, key-as-before, pulse-as-before, settle-as-before, frame-as-before}
 use Rattle.meter.specs.declared.Meter.{Meter}
 use Rattle.reader.specs.Building.{built}
 use Rattle.reader.specs.Judging.{judged}
@@ -73,8 +75,10 @@ pub record RefusalsChangeNothing : Type 0 where
   -- The calls of the host.
   pub set-key : (on : Bool) (m : Meter) (forward reverse : Rows) → let k = keySet on m forward reverse in AsBefore (hostSaid (k .answer)) m (k .meter)
   pub pulse : (amount direction rate : ℕ) (m : Meter) (forward reverse : Rows)
-      → ReadingsAsBefore forward reverse (pulsedBy amount direction rate m forward reverse)
-  pub settle : (m : Meter) (forward reverse : Rows) → ReadingsAsBefore forward reverse (settledBy m forward reverse)
+      → let c = pulsedBy amount direction rate m forward reverse in
+      LeftAlone m (c .meter) × AsBefore (hostSaid (c .answer)) (energiesOf forward reverse) (c .energies)
+  pub settle : (m : Meter) (forward reverse : Rows)
+      → let c = settledBy m forward reverse in LeftAlone m (c .meter) × AsBefore (hostSaid (c .answer)) (energiesOf forward reverse) (c .energies)
   -- A pulse and a settlement counted, whatever the caller says of the ranges.
   pub count-pulse : (amount direction rate : ℕ) (within : Bool) (forward reverse : Rows)
       → ReadingsAsBefore forward reverse (counting.pulsedBy amount direction rate within forward reverse)
@@ -110,10 +114,10 @@ demand-1 =
       pack = packing-as-before;
       fresh-meter = fresh-refused;
       set-key = key-as-before;
-      pulse = λ amount direction rate m forward reverse. pulse-as-before amount direction rate (withinRanges m forward reverse) forward reverse;
-      settle = λ m forward reverse. settle-as-before (withinRanges m forward reverse) forward reverse;
-      count-pulse = pulse-as-before;
-      count-settle = settle-as-before;
+      pulse = pulse-as-before;
+      settle = settle-as-before;
+      count-pulse = counting-said.pulse-as-before;
+      count-settle = counting-said.settle-as-before;
       frame = frame-as-before;
       write-value = value-as-before;
       with-value = registers-as-before;
