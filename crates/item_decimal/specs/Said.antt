@@ -1,11 +1,12 @@
--- What the papers say of the answers of packed decimal: they number none of its refusals. A refusal leaves the memory as it was.
-use Prim.Native.Nat.{ℕ, _^_}
-use mathlib.Core.Path.{refl}
+-- What the papers say of the answers of packed decimal: they number none of its refusals. When a number is not packed, and that the memory is then as it was.
+use Prim.Native.Nat.{ℕ, _^_, _≤_}
 use mathlib.Core.List.{List, [], _∷_}
+use native.Mathlib.Omega.{arith}
 use lib.ListN.{length}
 use lib.Dec.{ltb}
+use borrow.Author.Tests.{ltb-true, ltb-false}
 use Rattle.laws.specs.Memory.{Outcome}
-use Rattle.laws.specs.Said.{Said, values, unnumbered, AsBefore}
+use Rattle.laws.specs.Said.{Said, values, unnumbered, Refuses, refuses, answers}
 use Rattle.laws.specs.TestLaws.{pick-cases}
 use Rattle.item_decimal.specs.Decimal.{packing}
 use Rattle.item_decimal.specs.declared.Packed.{Packed}
@@ -24,7 +25,9 @@ unpackedSaid (Number n) = values (n ∷ [])
 unpackedSaid TooLong = unnumbered
 unpackedSaid (NotDecimal i) = unnumbered
 
-pub packing-as-before : (n : ℕ) (m : List ℕ) → AsBefore (packedSaid (packing n m .answer)) m (packing n m .memory)
+pub packing-refuses : (n : ℕ) (m : List ℕ) → let o = packing n m in Refuses (packedSaid (o .answer)) (100 ^ length m ≤ n) m (o .memory)
 unfolding packing
-packing-as-before n m =
-    pick-cases (λ (o : Outcome Packed). AsBefore (packedSaid (o .answer)) m (o .memory)) (ltb n (100 ^ length m)) (λ _ r. absurd r) (λ _ r. refl)
+packing-refuses n m =
+    pick-cases (λ (o : Outcome Packed). Refuses (packedSaid (o .answer)) (100 ^ length m ≤ n) m (o .memory)) (ltb n (100 ^ length m))
+    (λ fits. answers (λ r. r) (λ large. omega (arith, ltb-true n (100 ^ length m) fits)))
+    (λ large. refuses (ltb-false n (100 ^ length m) large) tt)

@@ -1,12 +1,13 @@
--- What the papers say of the answers to the reading of a block, and that a refusal leaves the memory as it was.
-use Prim.Native.Nat.{ℕ}
-use mathlib.Core.Path.{refl}
+-- What the papers say of the answers to the reading of a block, when it is refused, and that the memory is then as it was.
+use Prim.Native.Nat.{ℕ, _<_}
 use mathlib.Core.List.{List, [], _∷_}
 use mathlib.Core.Bool.{Bool}
+use native.Mathlib.Omega.{arith}
 use lib.ListN.{length}
 use lib.Dec.{leb}
+use borrow.Author.Tests.{leb-true, leb-false}
 use Rattle.laws.specs.Memory.{Outcome}
-use Rattle.laws.specs.Said.{Said, values, refusal, AsBefore}
+use Rattle.laws.specs.Said.{Said, values, refusal, Refuses, refuses, answers}
 use Rattle.laws.specs.TestLaws.{pick-cases}
 use Rattle.line_block.specs.Block.{delivered, blockRead}
 use Rattle.line_block.specs.declared.BlockAnswer.{BlockAnswer}
@@ -17,8 +18,10 @@ abbrev pub blockSaid : BlockAnswer → Said
 blockSaid (Refused n) = refusal n
 blockSaid (Delivered bytes frames rest) = values (bytes ∷ frames ∷ rest ∷ [])
 
-pub block-as-before : (block : List ℕ) (ended : Bool) (m : List ℕ)
-    → let o = blockRead block ended m in AsBefore (blockSaid (o .answer)) m (o .memory)
+pub block-refuses : (block : List ℕ) (ended : Bool) (m : List ℕ)
+    → let o = blockRead block ended m in Refuses (blockSaid (o .answer)) (length m < length block) m (o .memory)
 unfolding blockRead delivered
-block-as-before block ended m =
-    pick-cases (λ (o : Outcome BlockAnswer). AsBefore (blockSaid (o .answer)) m (o .memory)) (leb (length block) (length m)) (λ _ r. absurd r) (λ _ r. refl)
+block-refuses block ended m =
+    pick-cases (λ (o : Outcome BlockAnswer). Refuses (blockSaid (o .answer)) (length m < length block) m (o .memory)) (leb (length block) (length m))
+    (λ room. answers (λ r. r) (λ short. omega (arith, leb-true (length block) (length m) room)))
+    (λ short. refuses (leb-false _ _ short) tt)

@@ -1,11 +1,13 @@
--- What the papers say of the answers of a step, and that a refusal leaves buffer and memory as they were.
-use Prim.Native.Nat.{ℕ, _+_}
-use mathlib.Core.Path.{refl}
+-- What the papers say of the answers of a step, when it is refused, and that buffer and memory are then as they were.
+use Prim.Native.Nat.{ℕ, _+_, _≤_, _<_}
 use mathlib.Core.List.{List, [], _∷_}
 use mathlib.Core.Bool.{Bool}
+use mathlib.Core.Logic.{_⊎_, inl, inr}
+use native.Mathlib.Omega.{arith}
 use lib.ListN.{length}
 use lib.Dec.{leb}
-use Rattle.laws.specs.Said.{Said, values, refusal, AsBefore}
+use borrow.Author.Tests.{leb-true, leb-false}
+use Rattle.laws.specs.Said.{Said, values, refusal, Refuses, refuses, answers}
 use Rattle.laws.specs.TestLaws.{pick-cases}
 use Rattle.recording.specs.Step.{StepOutcome, stepped, stepRead}
 use Rattle.recording.specs.declared.StepAnswer.{StepAnswer}
@@ -16,13 +18,22 @@ abbrev pub stepSaid : StepAnswer → Said
 stepSaid (Refused n) = refusal n
 stepSaid (Delivered bytes frames kept) = values (bytes ∷ frames ∷ kept ∷ [])
 
-pub step-as-before : (kept read : ℕ) (ended : Bool) (buffer m : List ℕ)
-    → let o = stepRead kept read ended buffer m in AsBefore (stepSaid (o .answer)) buffer (o .buffer) × AsBefore (stepSaid (o .answer)) m (o .memory)
+pub step-refuses : (kept read : ℕ) (ended : Bool) (buffer m : List ℕ)
+    → let o = stepRead kept read ended buffer m in
+    Refuses {S = List ℕ × List ℕ} (stepSaid (o .answer)) ((length buffer < kept + read) ⊎ (length m < kept + read)) (buffer, m) (o .buffer, o .memory)
 unfolding stepRead stepped
-step-as-before kept read ended buffer m =
+step-refuses kept read ended buffer m =
     pick-cases P (leb (kept + read) (length buffer))
-    (λ _. pick-cases P (leb (kept + read) (length m)) (λ _. (λ r. absurd r, λ r. absurd r)) (λ _. (λ r. refl, λ r. refl)))
-    (λ _. (λ r. refl, λ r. refl))
+    (λ within. pick-cases P (leb (kept + read) (length m)) (λ room. answers (λ r. r) (can (leb-true _ _ within) (leb-true _ _ room)))
+    (λ short. refuses (inr (leb-false _ _ short)) tt))
+    (λ beyond. refuses (inl (leb-false _ _ beyond)) tt)
   where
+    Short : Type 0
+    Short = (length buffer < kept + read) ⊎ (length m < kept + read)
+
     P : StepOutcome → Type 0
-    P o = AsBefore (stepSaid (o .answer)) buffer (o .buffer) × AsBefore (stepSaid (o .answer)) m (o .memory)
+    P o = Refuses {S = List ℕ × List ℕ} (stepSaid (o .answer)) Short (buffer, m) (o .buffer, o .memory)
+
+    can : kept + read ≤ length buffer → kept + read ≤ length m → Short → ⊥
+    can within room (inl beyond) = omega arith
+    can within room (inr short) = omega arith
