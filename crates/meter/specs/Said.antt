@@ -1,24 +1,30 @@
--- What the papers say of a meter's answer to a frame, and that a refusal of a meter's operation leaves meter, readings and memory as they were.
+-- What the papers say of a meter's answer to a frame, when each of a meter's operations is refused, and that meter, readings and memory are then
+-- as they were.
 use Prim.Native.Nat.{ℕ}
-use mathlib.Core.Path.{_≡_, refl}
+use mathlib.Core.Path.{_≡_, refl, sym, ap, subst, _∙_}
 use mathlib.Core.List.{List, [], _∷_}
-use mathlib.Core.Bool.{Bool, true, false, _&&_}
-use Rattle.laws.specs.Memory.{LeftAlone}
-use Rattle.laws.specs.Said.{Said, values, refusal, IsRefusal, AsBefore}
+use mathlib.Core.Bool.{Bool, true, false, false≢true}
+use mathlib.Core.Logic.{_↔_, Iff·trans}
+use Rattle.laws.specs.Memory.{Outcome}
+use Rattle.laws.specs.Said.{Said, values, refusal, IsRefusal, Refuses, refuses, answers}
 use Rattle.laws.specs.Test.{pick}
 use Rattle.laws.specs.TestLaws.{pick-cases}
 use Rattle.frame.specs.Refusals.{badArgument}
-use Rattle.item_address.specs.Address.{isGood}
+use Rattle.item_address.specs.Address.{Good, isGood}
+use Rattle.item_address.specs.AddressLaws.{good, is-good}
 use Rattle.energy.specs.Energies.{Rows}
+use Rattle.energy.specs.declared.Energies.{Energies}
 use Rattle.meter_counting.specs.Counting.{energiesOf}
 use Rattle.meter_counting.specs.Said as counting
-use Rattle.meter_counting.specs.Said.{hostSaid}
+use Rattle.meter_counting.specs.Said.{hostSaid, Countable}
 use Rattle.meter_counting.specs.declared.HostAnswer.the-variants as host
-use Rattle.meter_holding.specs.Holding as holding
 use Rattle.meter.specs.Meter.{freshMeter, withinRanges}
+use Rattle.meter.specs.Ranges.{InRanges, within-ranges}
 use Rattle.meter.specs.Host.{created, keySet, pulsedBy, settledBy}
 use Rattle.meter.specs.Answer.{delivered, answered}
-use Rattle.meter.specs.AnswerLaws.{Answers, refuses, errs, carries, answers}
+use Rattle.meter.specs.AnswerLaws as laws
+use Rattle.meter.specs.AnswerLaws.{Answers, not-replied}
+use Rattle.meter.specs.declared.Answered.{Answered}
 use Rattle.meter.specs.declared.FrameAnswer.{FrameAnswer}
 use Rattle.meter.specs.declared.FrameAnswer.the-variants.{Replied, Refused}
 use Rattle.meter.specs.declared.KeySet.{KeySet}
@@ -29,41 +35,64 @@ abbrev pub frameSaid : FrameAnswer → Said
 frameSaid (Replied n) = values (n ∷ [])
 frameSaid (Refused n) = refusal n
 
--- A meter that is refused when it is made is no meter: every operation refuses it with 16.
-pub fresh-refused : (address : List ℕ) → IsRefusal (hostSaid (created address .answer))
-    → withinRanges (created address .meter) (created address .energies .forward) (created address .energies .reverse) ≡ false
-unfolding created holding.withinRanges freshMeter
-fresh-refused address = go (isGood address) _
+-- A meter is refused when it is made exactly where its address is not good; what comes back is then no meter, for every operation refuses it
+-- with 16.
+pub fresh-refused : (address : List ℕ)
+    → let c = created address in
+    (IsRefusal (hostSaid (c .answer)) ↔ (Good address → ⊥))
+    × (IsRefusal (hostSaid (c .answer)) → InRanges (c .meter) (c .energies .forward) (c .energies .reverse) → ⊥)
+unfolding created freshMeter
+fresh-refused address = (go (isGood address) refl, λ r ranges. go (isGood address) refl .0 r (ranges .address))
   where
-    go : (good rest : Bool) → IsRefusal (hostSaid (pick good host.Done (host.Refused badArgument))) → (good && rest) ≡ false
-    go true rest r = absurd r
-    go false rest r = refl
+    go : (t : Bool) → isGood address ≡ t → IsRefusal (hostSaid (pick t host.Done (host.Refused badArgument))) ↔ (Good address → ⊥)
+    go true e = (λ r. absurd r, λ bad. bad (good address e))
+    go false e = (λ r g. false≢true (sym e ∙ is-good address g), λ bad. tt)
 
-pub key-as-before : (on : Bool) (m : Meter) (forward reverse : Rows)
-    → let k = keySet on m forward reverse in AsBefore (hostSaid (k .answer)) m (k .meter)
+pub key-refuses : (on : Bool) (m : Meter) (forward reverse : Rows)
+    → let k = keySet on m forward reverse in Refuses (hostSaid (k .answer)) (InRanges m forward reverse → ⊥) m (k .meter)
 unfolding keySet
-key-as-before on m forward reverse =
-    pick-cases (λ (k : KeySet). AsBefore (hostSaid (k .answer)) m (k .meter)) (withinRanges m forward reverse) (λ _ r. absurd r) (λ _ r. refl)
+key-refuses on m forward reverse =
+    pick-cases (λ (k : KeySet). Refuses (hostSaid (k .answer)) (InRanges m forward reverse → ⊥) m (k .meter)) (withinRanges m forward reverse)
+    (λ within. answers (λ r. r) (λ out. out (within-ranges m forward reverse .0 within)))
+    (λ out. refuses (λ ranges. false≢true (sym out ∙ within-ranges m forward reverse .1 ranges)) tt)
 
--- A pulse and a settlement count in the readings alone: whatever they answer, the meter comes back as it was, and with a refusal the readings do.
-pub pulse-as-before : (amount direction rate : ℕ) (m : Meter) (forward reverse : Rows)
+-- A meter and its readings together.
+abbrev pub Whole : Type 0
+Whole = Meter × Energies
+
+-- What `meter_counting` is told of the ranges is what they are.
+told : {Told Rest Within : Type 0} → Told ↔ Within → (Told × Rest → ⊥) ↔ (Within × Rest → ⊥)
+told test = (λ none both. none (test .1 (both .0), both .1), λ none both. none (test .0 (both .0), both .1))
+
+pub pulse-refuses : (amount direction rate : ℕ) (m : Meter) (forward reverse : Rows)
     → let c = pulsedBy amount direction rate m forward reverse in
-    LeftAlone m (c .meter) × AsBefore (hostSaid (c .answer)) (energiesOf forward reverse) (c .energies)
-pulse-as-before amount direction rate m forward reverse =
-    (refl, counting.pulse-as-before amount direction rate (withinRanges m forward reverse) forward reverse)
+    Refuses {S = Whole} (hostSaid (c .answer)) (InRanges m forward reverse × Countable direction rate → ⊥) (m, energiesOf forward reverse) (c .meter, c .energies)
+pulse-refuses amount direction rate m forward reverse =
+    let c = counting.pulse-refuses amount direction rate (withinRanges m forward reverse) forward reverse in
+    record { exactly = Iff·trans (c .exactly) (told (within-ranges m forward reverse)); as-before = λ r. ap (λ (e : Energies). (m, e)) (c .as-before r) }
 
-pub settle-as-before : (m : Meter) (forward reverse : Rows)
-    → let c = settledBy m forward reverse in LeftAlone m (c .meter) × AsBefore (hostSaid (c .answer)) (energiesOf forward reverse) (c .energies)
-settle-as-before m forward reverse = (refl, counting.settle-as-before (withinRanges m forward reverse) forward reverse)
+pub settle-refuses : (m : Meter) (forward reverse : Rows)
+    → let c = settledBy m forward reverse in
+    Refuses {S = Whole} (hostSaid (c .answer)) (InRanges m forward reverse → ⊥) (m, energiesOf forward reverse) (c .meter, c .energies)
+settle-refuses m forward reverse =
+    let c = counting.settle-refuses (withinRanges m forward reverse) forward reverse in
+    let test = within-ranges m forward reverse in
+    record {
+      exactly = (λ r ranges. c .exactly .0 r (test .1 ranges), λ out. c .exactly .1 (λ told. out (test .0 told)));
+      as-before = λ r. ap (λ (e : Energies). (m, e)) (c .as-before r);
+    }
 
-pub frame-as-before : (bytes : List ℕ) (m : Meter) (forward reverse : Rows) (memory : List ℕ)
-    → let o = answered bytes m forward reverse memory in let said = frameSaid (o .answer .answer) in
-    AsBefore said m (o .answer .meter) × AsBefore said memory (o .memory)
+-- A frame is refused where the answer says so; `FrameIsRight` says where that is.
+pub frame-refuses : (bytes : List ℕ) (m : Meter) (forward reverse : Rows) (memory : List ℕ)
+    → let o = answered bytes m forward reverse memory in
+    Refuses {S = Meter × List ℕ} (frameSaid (o .answer .answer)) ((n : ℕ) × (o .answer .answer ≡ Refused n)) (m, memory) (o .answer .meter, o .memory)
 unfolding delivered
-frame-as-before bytes m forward reverse memory = go (answers bytes m forward reverse memory)
+frame-refuses bytes m forward reverse memory = go (laws.answers bytes m forward reverse memory)
   where
-    go : Answers bytes m forward reverse memory → let o = answered bytes m forward reverse memory in let said = frameSaid (o .answer .answer) in
-        AsBefore said m (o .answer .meter) × AsBefore said memory (o .memory)
-    go (refuses k small e) = rw e (λ r. refl, λ r. refl)
-    go (errs command b w loud e) = rw e (λ r. absurd r, λ r. absurd r)
-    go (carries command w all e) = rw e (λ r. absurd r, λ r. absurd r)
+    P : Outcome Answered → Type 0
+    P o = Refuses {S = Meter × List ℕ} (frameSaid (o .answer .answer)) ((n : ℕ) × (o .answer .answer ≡ Refused n)) (m, memory) (o .answer .meter, o .memory)
+
+    go : Answers bytes m forward reverse memory → P (answered bytes m forward reverse memory)
+    go (laws.refuses k small e) = subst P (sym e) (refuses (k, refl) tt)
+    go (laws.errs command b w loud e) = subst P (sym e) (answers (λ r. r) (λ h. not-replied (sym (h .1))))
+    go (laws.carries command w all e) = subst P (sym e) (answers (λ r. r) (λ h. not-replied (sym (h .1))))

@@ -2,13 +2,13 @@
 use Prim.Native.Nat.{ℕ, _+_, _%_, _≤_}
 use mathlib.Core.Path.{_≡_}
 use mathlib.Core.List.{List}
-use mathlib.Core.Bool.{Bool, true, false}
 use lib.ListN.{length}
 use Rattle.laws.specs.All.{AllOf}
 use Rattle.energy.specs.Reading.{Reading}
 use Rattle.energy.specs.Energies.{Rows, numberAt}
 use Rattle.energy.specs.declared.Energies.{Energies}
-use Rattle.meter_counting.specs.Counting.{energiesOf, pulsedBy, settledBy}
+use Rattle.meter_counting.specs.Said.{Countable}
+use Rattle.meter_counting.specs.Counting.{energiesOf}
 use Rattle.meter_counting.specs.declared.HostAnswer.{HostAnswer}
 use Rattle.meter_counting.specs.declared.HostAnswer.the-variants.{Done, Refused}
 
@@ -34,19 +34,13 @@ RefusedBy n forward reverse answer after = (answer ≡ Refused n) × (after ≡ 
 
 -- A pulse: 16 for a meter outside its ranges, then 8 where the direction is not 0 or 1 or the rate not 1 to 4; else it counts in its own
 -- direction, 0 forward or 1 reverse, and the other direction is as before.
-pub record PulseIsRight (amount direction rate : ℕ) (within : Bool) (forward reverse : Rows) : Type 0 where
-  pub out-of-range : within ≡ false
-      → let c = pulsedBy amount direction rate within forward reverse in
-      RefusedBy 16 forward reverse (c .answer) (c .energies)
-  pub bad : within ≡ true → ((direction ≤ 1) × (1 ≤ rate) × (rate ≤ 4) → ⊥)
-      → let c = pulsedBy amount direction rate within forward reverse in
-      RefusedBy 8 forward reverse (c .answer) (c .energies)
-  pub forward-counted : within ≡ true → direction ≡ 0 → 1 ≤ rate → rate ≤ 4
-      → let c = pulsedBy amount direction rate within forward reverse in
-      (c .answer ≡ Done) × PulseCounted amount rate forward (c .energies .forward) × (c .energies .reverse ≡ reverse)
-  pub reverse-counted : within ≡ true → direction ≡ 1 → 1 ≤ rate → rate ≤ 4
-      → let c = pulsedBy amount direction rate within forward reverse in
-      (c .answer ≡ Done) × PulseCounted amount rate reverse (c .energies .reverse) × (c .energies .forward ≡ forward)
+pub record PulseIsRight (Within : Type 0) (amount direction rate : ℕ) (forward reverse : Rows) (answer : HostAnswer) (after : Energies) : Type 0 where
+  pub out-of-range : (Within → ⊥) → RefusedBy 16 forward reverse answer after
+  pub bad : Within → (Countable direction rate → ⊥) → RefusedBy 8 forward reverse answer after
+  pub forward-counted : Within → direction ≡ 0 → 1 ≤ rate → rate ≤ 4
+      → (answer ≡ Done) × PulseCounted amount rate forward (after .forward) × (after .reverse ≡ reverse)
+  pub reverse-counted : Within → direction ≡ 1 → 1 ≤ rate → rate ≤ 4
+      → (answer ≡ Done) × PulseCounted amount rate reverse (after .reverse) × (after .forward ≡ forward)
 
 -- A settlement moves every row down one, drops row 12, and keeps row 0.
 pub record Settled (rows after : Rows) : Type 0 where
@@ -55,10 +49,6 @@ pub record Settled (rows after : Rows) : Type 0 where
   pub sized : Sized after
 
 -- A settlement: 16 for a meter outside its ranges; else both directions settle.
-pub record SettleIsRight (within : Bool) (forward reverse : Rows) : Type 0 where
-  pub out-of-range : within ≡ false
-      → let c = settledBy within forward reverse in
-      RefusedBy 16 forward reverse (c .answer) (c .energies)
-  pub settles : within ≡ true
-      → let c = settledBy within forward reverse in
-      (c .answer ≡ Done) × Settled forward (c .energies .forward) × Settled reverse (c .energies .reverse)
+pub record SettleIsRight (Within : Type 0) (forward reverse : Rows) (answer : HostAnswer) (after : Energies) : Type 0 where
+  pub out-of-range : (Within → ⊥) → RefusedBy 16 forward reverse answer after
+  pub settles : Within → (answer ≡ Done) × Settled forward (after .forward) × Settled reverse (after .reverse)

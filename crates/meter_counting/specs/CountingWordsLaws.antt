@@ -4,6 +4,7 @@ use mathlib.Core.Path.{_≡_, refl, ap, _∙_}
 use mathlib.Core.List.{List, [], _∷_}
 use mathlib.Core.Bool.{Bool, true, false, _&&_, and-eq-true-iff}
 use native.Mathlib.Numerals.{unary-clauses}
+use mathlib.Core.Logic.{_↔_}
 use native.Mathlib.Omega.{arith}
 use lib.ListN.{getD, set, length-set}
 use lib.Seq.{getD-set-same, getD-set-other, getD-take, length-take-le}
@@ -17,6 +18,7 @@ use Rattle.energy.specs.ReadingLaws.{number-plus}
 use Rattle.energy.specs.Energies.{Rows, readingAt, numberAt}
 use Rattle.meter_counting.specs.Rows.{isRate, pulsedRow, pulsed, settled}
 use Rattle.meter_counting.specs.Counting.{pulsedBy, settledBy}
+use Rattle.meter_counting.specs.Said.{Countable, countable-iff}
 use Rattle.meter_counting.specs.CountingWords.{OfFive, Sized, PulseCounted, PulseIsRight, Settled, SettleIsRight}
 
 -- The test of a rate says 1 to 4.
@@ -56,24 +58,19 @@ pulse-counted amount rate (row ∷ rows) least most sized =
     others (suc r) column h = refl
 
 -- A direction or a rate that is not good fails the test of both.
-is-bad : (direction rate : ℕ) → ((direction ≤ 1) × (1 ≤ rate) × (rate ≤ 4) → ⊥) → (leb direction 1 && isRate rate) ≡ false
-unfolding isRate
-is-bad direction rate not-good =
-    not-true _
-    (λ e. let both = and-eq-true-iff _ _ .0 e in
-    let rates = within-iff 1 4 rate .0 (both .1) in
-    not-good (leb-true direction 1 (both .0), rates .0, rates .1))
+is-bad : (direction rate : ℕ) → (Countable direction rate → ⊥) → (leb direction 1 && isRate rate) ≡ false
+is-bad direction rate not-good = not-true _ (λ e. not-good (countable-iff direction rate .0 e))
 
--- A pulse does what its words say.
-pub pulse-words : (amount direction rate : ℕ) (within : Bool) (forward reverse : Rows) → Sized forward → Sized reverse
-    → PulseIsRight amount direction rate within forward reverse
+-- A pulse does what its words say, whatever the caller's test of the ranges stands for.
+pub pulse-words : (Within : Type 0) (within : Bool) → (within ≡ true) ↔ Within → (amount direction rate : ℕ) (forward reverse : Rows) → Sized forward → Sized reverse
+    → let c = pulsedBy amount direction rate within forward reverse in PulseIsRight Within amount direction rate forward reverse (c .answer) (c .energies)
 unfolding pulsedBy
-pulse-words amount direction rate within forward reverse p q =
+pulse-words Within within test amount direction rate forward reverse p q =
     record {
-      out-of-range = λ e. rw e (refl, refl);
-      bad = λ e not-good. rw (e, is-bad direction rate not-good) (refl, refl);
-      forward-counted = λ e d least most. rw (e, d, is-rate rate least most) (refl, pulse-counted amount rate forward least most p, refl);
-      reverse-counted = λ e d least most. rw (e, d, is-rate rate least most) (refl, pulse-counted amount rate reverse least most q, refl);
+      out-of-range = λ out. rw (not-true within (λ h. out (test .0 h))) (refl, refl);
+      bad = λ w not-good. rw (test .1 w, is-bad direction rate not-good) (refl, refl);
+      forward-counted = λ w d least most. rw (test .1 w, d, is-rate rate least most) (refl, pulse-counted amount rate forward least most p, refl);
+      reverse-counted = λ w d least most. rw (test .1 w, d, is-rate rate least most) (refl, pulse-counted amount rate reverse least most q, refl);
     }
 
 -- The rows of one direction settle.
@@ -94,10 +91,11 @@ rows-settled (row ∷ rows) sized =
     }
 
 -- A settlement does what its words say.
-pub settle-words : (within : Bool) (forward reverse : Rows) → Sized forward → Sized reverse → SettleIsRight within forward reverse
+pub settle-words : (Within : Type 0) (within : Bool) → (within ≡ true) ↔ Within → (forward reverse : Rows) → Sized forward → Sized reverse
+    → let c = settledBy within forward reverse in SettleIsRight Within forward reverse (c .answer) (c .energies)
 unfolding settledBy
-settle-words within forward reverse p q =
+settle-words Within within test forward reverse p q =
     record {
-      out-of-range = λ e. rw e (refl, refl);
-      settles = λ e. rw e (refl, rows-settled forward p, rows-settled reverse q);
+      out-of-range = λ out. rw (not-true within (λ h. out (test .0 h))) (refl, refl);
+      settles = λ w. rw (test .1 w) (refl, rows-settled forward p, rows-settled reverse q);
     }

@@ -1,13 +1,14 @@
--- What the papers say of the answers to the writing of a value, and that a refusal leaves memory and registers as they were.
-use Prim.Native.Nat.{ℕ}
-use mathlib.Core.Path.{_≡_, refl}
+-- What the papers say of the answers to the writing of a value, when it is refused, and that memory and registers are then as they were.
+use Prim.Native.Nat.{ℕ, _≤_}
+use mathlib.Core.Path.{_≡_, refl, ap}
 use mathlib.Core.List.{List, [], _∷_}
 use mathlib.Core.Bool.{Bool, true, false}
+use native.Mathlib.Omega.{arith}
 use lib.ListN.{length}
 use lib.Dec.{leb, eqb}
-use borrow.Author.Tests.{eqb-true}
+use borrow.Author.Tests.{leb-true, leb-false, eqb-true}
 use Rattle.laws.specs.Memory.{Outcome, LeftAlone}
-use Rattle.laws.specs.Said.{Said, values, refusal, unnumbered, AsBefore}
+use Rattle.laws.specs.Said.{Said, values, refusal, unnumbered, Refuses, refuses, answers}
 use Rattle.laws.specs.Test.{pick}
 use Rattle.laws.specs.TestLaws.{pick-cases}
 use Rattle.frame.specs.Refusals.{shortMemory}
@@ -28,17 +29,23 @@ heldSaid (held.Length n) = values (n ∷ [])
 heldSaid held.NotListed = unnumbered
 heldSaid held.TooLittleMemory = refusal shortMemory
 
-pub value-as-before : (identifier : ℕ) (address registers : List ℕ) (forward reverse : Rows) (m : List ℕ)
-    → let o = valueWritten identifier address registers forward reverse m in AsBefore (heldSaid (o .answer)) m (o .memory)
+-- The identifier is listed, and there is room for its value.
+abbrev pub HasRoom : ℕ → List ℕ → Type 0
+HasRoom identifier m = (item : Item) × (itemOf identifier ≡ Listed item) × (item .length ≤ length m)
+
+pub value-refuses : (identifier : ℕ) (address registers : List ℕ) (forward reverse : Rows) (m : List ℕ)
+    → let o = valueWritten identifier address registers forward reverse m in Refuses (heldSaid (o .answer)) (HasRoom identifier m → ⊥) m (o .memory)
 unfolding valueWritten
-value-as-before identifier address registers forward reverse m = go (itemOf identifier)
+value-refuses identifier address registers forward reverse m = go (itemOf identifier) refl
   where
     P : Outcome Held → Type 0
-    P o = AsBefore (heldSaid (o .answer)) m (o .memory)
+    P o = Refuses (heldSaid (o .answer)) (HasRoom identifier m → ⊥) m (o .memory)
 
-    go : (l : Lookup) → P (writtenOf l address registers forward reverse m)
-    go NotListed = λ r. refl
-    go (Listed item) = pick-cases P (leb (item .length) (length m)) (λ _ r. absurd r) (λ _ r. refl)
+    go : (l : Lookup) → itemOf identifier ≡ l → P (writtenOf l address registers forward reverse m)
+    go NotListed e = refuses (λ h. let z : _≡_ {A = ℕ} 0 1 = cc (h .1) in omega arith) tt
+    go (Listed item) e =
+        pick-cases P (leb (item .length) (length m)) (λ room. answers (λ r. r) (λ none. none (item, e, leb-true _ _ room)))
+        (λ short. refuses (λ h. let same : item ≡ h .0 = cc (h .1) in omega (arith, leb-false (item .length) (length m) short, ap (λ (i : Item). i .length) same, h .2)) tt)
 
 -- Registers take a value only where the identifier is listed, its item is a register, and the value has its length.
 pub registers-as-before : (identifier : ℕ) (value registers : List ℕ)
