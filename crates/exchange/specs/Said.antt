@@ -4,11 +4,11 @@ use Prim.Native.Nat.{ℕ}
 use mathlib.Core.Path.{_≡_, refl, sym, ap, subst, _∙_}
 use mathlib.Core.List.{[]}
 use mathlib.Core.Bool.{Bool, true, false, true≢false, and-eq-true-iff}
-use mathlib.Core.Logic.{_↔_}
+use mathlib.Core.Logic.{_↔_, _⊎_, inl, inr}
 use native.Mathlib.Omega.{arith}
 use borrow.Author.Tests.{leb-true, le-leb}
 use Rattle.laws.specs.Memory.{LeftAlone}
-use Rattle.laws.specs.Said.{Said, silence, refusal, IsRefusal, AsBefore}
+use Rattle.laws.specs.Said.{Said, silence, refusal, IsRefusal, Refuses, refuses, answers}
 use Rattle.laws.specs.TestLaws.{pick-cases, not-true}
 use Rattle.frame.specs.Refusals.{shortMemory, notForThisMeter, notAllowed, outOfRange}
 use Rattle.item_command.specs.Addressee.{addressed}
@@ -67,11 +67,15 @@ kindOf (Silent n) = 1
 kindOf (Judged judgement) = 2
 
 module _ (request : Request) (m : Meter) (forward reverse : Rows) (lent : Memories) where
+  -- Nothing is sent: the meter is outside its ranges, one of the four memories is too short, or the request is not allowed.
+  abbrev pub NotSent : Type 0
+  NotSent = (InRanges m forward reverse → ⊥) ⊎ ((EnoughMemory lent → ⊥) ⊎ (AllowedInWords (request .action) request → ⊥))
+
   -- The ways that an exchange ends.
   data Ends : Type 0 where
-    refuses : (n : ℕ) → exchanged request m forward reverse lent ≡ outcomeOf (refusedWith n m) lent → Ends
-    silent : exchanged request m forward reverse lent ≡ comesTo request m (Silent notForThisMeter) [] [] lent → Ends
-    judges : (judgement : Judgement) → IsGood judgement → exchanged request m forward reverse lent .returned .answer ≡ Judged judgement → Ends
+    stops : (n : ℕ) → NotSent → exchanged request m forward reverse lent ≡ outcomeOf (refusedWith n m) lent → Ends
+    silent : (NotSent → ⊥) → exchanged request m forward reverse lent ≡ comesTo request m (Silent notForThisMeter) [] [] lent → Ends
+    judges : (judgement : Judgement) → IsGood judgement → (NotSent → ⊥) → exchanged request m forward reverse lent .returned .answer ≡ Judged judgement → Ends
 
   -- What is refused, before anything is sent: 16, then 1 for any of the four memories, then 5; all as before.
   pub record ExchangeRefuses : Type 0 where
@@ -97,8 +101,8 @@ module _ (request : Request) (m : Meter) (forward reverse : Rows) (lent : Memori
 
   -- What an exchange answers and leaves.
   pub record ExchangeAnswers : Type 0 where
-    pub meter-as-before : let o = exchanged request m forward reverse lent in AsBefore (exchangeSaid (o .returned .answer)) m (o .returned .meter)
-    pub memory-as-before : let o = exchanged request m forward reverse lent in AsBefore (exchangeSaid (o .returned .answer)) lent (o .lent)
+    pub refused : let o = exchanged request m forward reverse lent in
+        Refuses {S = Meter × Memories} (exchangeSaid (o .returned .answer)) NotSent (m, lent) (o .returned .meter, o .lent)
     -- A silence is 3, and leaves the meter and the memory for reply and value as they were.
     pub silence-is-3 : let o = exchanged request m forward reverse lent in (n : ℕ) → o .returned .answer ≡ Silent n → n ≡ 3
     pub silence-leaves : let o = exchanged request m forward reverse lent in (n : ℕ) → o .returned .answer ≡ Silent n
@@ -109,6 +113,11 @@ module _ (request : Request) (m : Meter) (forward reverse : Rows) (lent : Memori
   module _ (typed : Typed request) (sized : MeterSized m) where
     -- An allowed request to a meter within its ranges, with memory enough.
     module _ (allowed : isAllowed request ≡ true) (ranges : InRanges m forward reverse) (room : EnoughMemory lent) where
+      sent : NotSent → ⊥
+      sent (inl out) = out ranges
+      sent (inr (inl few)) = few room
+      sent (inr (inr not)) = not (allowed-words request (typed .sized) .0 allowed)
+
       -- A write is authorised, or it is not.
       write-ends : request .action ≡ WriteData → MeantFor request m → (t a : Bool) → m .key ≡ t
           → authorised 4 (request .level) (request .password) (m .passwords) ≡ a → Ends
@@ -116,22 +125,22 @@ module _ (request : Request) (m : Meter) (forward reverse : Rows) (lent : Memori
       write-ends writes for-meter true true k h =
           let both = and-eq-true-iff _ _ .0 h in
           let right : Authorised request m = record { key-on = k; level = leb-true _ _ (both .0); password = same-equal _ _ (both .1) } in
-          judges (judging.Value 0) tt (ap answer (write-sets request typed allowed m forward reverse sized ranges lent room writes for-meter right .outcome))
+          judges (judging.Value 0) tt sent (ap answer (write-sets request typed allowed m forward reverse sized ranges lent room writes for-meter right .outcome))
       write-ends writes for-meter true false k h =
-          judges (judging.Error notAuthorised) tt
+          judges (judging.Error notAuthorised) tt sent
           (ap answer (write-fails request typed allowed m forward reverse sized ranges lent room writes for-meter
           (λ right. true≢false (sym (and-eq-true-iff _ _ .1 (le-leb _ _ (right .level), equal-same _ _ (right .password))) ∙ h))))
       write-ends writes for-meter false a k h =
-          judges (judging.Error notAuthorised) tt
+          judges (judging.Error notAuthorised) tt sent
           (ap answer (write-fails request typed allowed m forward reverse sized ranges lent room writes for-meter (λ right. true≢false (sym (right .key-on) ∙ k))))
 
       -- It is meant for this meter.
       meant-ends : (action : Action) → request .action ≡ action → MeantFor request m → Ends
       meant-ends ReadData e for-meter =
-          judges (judging.Value _) tt
+          judges (judging.Value _) tt sent
           (ap answer (read-gives request typed allowed m forward reverse sized ranges lent room (subst IsRead (sym e) tt) for-meter .outcome))
       meant-ends ReadAddress e for-meter =
-          judges (judging.Value _) tt
+          judges (judging.Value _) tt sent
           (ap answer (read-gives request typed allowed m forward reverse sized ranges lent room (subst IsRead (sym e) tt) for-meter .outcome))
       meant-ends WriteData e for-meter =
           write-ends e for-meter (m .key) (authorised 4 (request .level) (request .password) (m .passwords)) refl refl
@@ -144,7 +153,7 @@ module _ (request : Request) (m : Meter) (forward reverse : Rows) (lent : Memori
       sent-ends : (t : Bool) → addressed (commandFor (request .action)) (sentTo (request .action) (request .address)) (m .address) ≡ t → Ends
       sent-ends true e = meant-ends (request .action) refl (meant-iff .0 e)
       sent-ends false e =
-          silent (gets-silence request typed allowed m forward reverse sized ranges lent room (λ meant. true≢false (sym (meant-iff .1 meant) ∙ e)))
+          silent sent (gets-silence request typed allowed m forward reverse sized ranges lent room (λ meant. true≢false (sym (meant-iff .1 meant) ∙ e)))
 
     ends : Ends
     unfolding exchanged
@@ -153,9 +162,9 @@ module _ (request : Request) (m : Meter) (forward reverse : Rows) (lent : Memori
         (λ w. pick-cases P (enough lent)
         (λ r. pick-cases P (isAllowed request)
         (λ a e. sent-ends a (within-ranges m forward reverse .0 w) (enough-memory lent r) _ refl)
-        (λ _ e. refuses notAllowed e))
-        (λ _ e. refuses shortMemory e))
-        (λ _ e. refuses outOfRange e)
+        (λ not e. stops notAllowed (inr (inr (λ words. true≢false (sym (allowed-words request (typed .sized) .1 words) ∙ not)))) e))
+        (λ few e. stops shortMemory (inr (inl (λ room. true≢false (sym (memory-enough lent room) ∙ few)))) e))
+        (λ out e. stops outOfRange (inl (λ ranges. true≢false (sym (within-ranges m forward reverse .1 ranges) ∙ out))) e)
         refl
       where
         P : ExchangeOutcome → Type 0
@@ -165,26 +174,23 @@ module _ (request : Request) (m : Meter) (forward reverse : Rows) (lent : Memori
     exchange-answers = go ends
       where
         go : Ends → ExchangeAnswers
-        go (refuses n e) =
+        go (stops n none e) =
             record {
-              meter-as-before = rw e (λ r. refl);
-              memory-as-before = rw e (λ r. refl);
+              refused = rw e (refuses none tt);
               silence-is-3 = rw e (λ k said. absurd (omega (arith, ap kindOf said)));
               silence-leaves = rw e (λ k said. absurd (omega (arith, ap kindOf said)));
               reply-is-good = rw e (λ k said. omega (arith, ap kindOf said));
             }
-        go (silent e) =
+        go (silent sent e) =
             record {
-              meter-as-before = rw e (λ r. absurd r);
-              memory-as-before = rw e (λ r. absurd r);
+              refused = rw e (answers (λ r. r) sent);
               silence-is-3 = rw e (λ k said. cc);
               silence-leaves = rw e (λ k said. (refl, refl, refl));
               reply-is-good = rw e (λ k said. omega (arith, ap kindOf said));
             }
-        go (judges judgement good e) =
+        go (judges judgement good sent e) =
             record {
-              meter-as-before = rw e (λ r. absurd (good-says judgement good r));
-              memory-as-before = rw e (λ r. absurd (good-says judgement good r));
+              refused = rw e (answers (good-says judgement good) sent);
               silence-is-3 = rw e (λ k said. absurd (omega (arith, ap kindOf said)));
               silence-leaves = rw e (λ k said. absurd (omega (arith, ap kindOf said)));
               reply-is-good = rw e (λ k said. let same : judgement ≡ judging.Refused k = cc in subst IsGood same good);

@@ -1,100 +1,122 @@
 -- Demand 1 of the letter: any bytes, in any state, get an answer and do no harm. That every operation answers is its contract, one equation
--- with no `requires`; here stands, over every public operation that can refuse, that a refusal changes neither a receiver, nor a meter, nor its
--- readings, nor any memory lent. What each answer says, and which is a refusal, is given by the definitions that end in `Said`. Each operation's
--- contract equates what it answers and leaves with the definition that stands here for it.
-use Prim.Native.Nat.{ℕ, _-_, _^_, _<_}
+-- with no `requires`. Here stands, over every public operation that can refuse, where exactly it does, in document 01's words, and that a refusal
+-- changes neither a receiver, nor a meter, nor its readings, nor any memory lent. What each answer says, and which is a refusal, is given by the
+-- definitions that end in `Said`. Each operation's contract equates what it answers and leaves with the definition that stands here for it. The
+-- calls from C hand on to these operations.
+use Prim.Native.Nat.{ℕ, _+_, _-_, _^_, _≤_, _<_}
 use mathlib.Core.Path.{_≡_}
 use mathlib.Core.List.{List}
-use mathlib.Core.Bool.{Bool, false}
+use mathlib.Core.Bool.{Bool, true}
+use mathlib.Core.Logic.{_↔_, _⊎_}
 use lib.ListN.{length}
 use Rattle.laws.specs.Memory.{LeftAlone}
-use Rattle.laws.specs.Said.{IsRefusal, AsBefore}
-use Rattle.frame_parts.specs.Said.{writtenSaid, writing-as-before, in-place-as-before}
+use Rattle.laws.specs.Said.{IsRefusal, Refuses}
+use Rattle.laws.specs.Words.{FirstFails}
+use Rattle.frame_parts.specs.Said.{writtenSaid, CannotWrite, writing-refuses, in-place-refuses}
 use Rattle.frame_parts.specs.Writing.{writing, writingInPlace}
 use Rattle.line_terms.specs.Line.{Symbol}
 use Rattle.line.specs.Receiver.{called}
-use Rattle.line.specs.Said.{receiverSaid, call-as-before}
+use Rattle.line.specs.Said.{receiverSaid, CannotHear, call-refuses}
 use Rattle.line.specs.declared.Receiver.{Receiver}
 use Rattle.line_block.specs.Block.{blockRead}
-use Rattle.line_block.specs.Said.{blockSaid, block-as-before}
+use Rattle.line_block.specs.Said.{blockSaid, block-refuses}
 use Rattle.recording.specs.Step.{stepRead}
-use Rattle.recording.specs.Said.{stepSaid, step-as-before}
+use Rattle.recording.specs.Said.{stepSaid, step-refuses}
 use Rattle.listing.specs.Text.{listing}
-use Rattle.listing.specs.Step.{stepListed}
-use Rattle.listing.specs.Said.{listedSaid, listing-as-before, StepAsBefore, list-step-as-before}
+use Rattle.listing.specs.Step.{TooShort, stepListed}
+use Rattle.listing.specs.Said.{listedSaid, stepListedSaid, CannotList, listing-refuses, list-step-refuses}
 use Rattle.receive_line.specs.WholeLine.{receivedLine}
-use Rattle.receive_line.specs.Said.{lineSaid, line-as-before}
+use Rattle.receive_line.specs.Said.{lineSaid, line-refuses}
+use Rattle.item_address.specs.Address.{Good}
 use Rattle.item_decimal.specs.Decimal.{packing}
-use Rattle.item_decimal.specs.Said.{packedSaid, packing-as-before}
+use Rattle.item_decimal.specs.Said.{packedSaid, packing-refuses}
 use Rattle.item.specs.Table.{itemOf}
 use Rattle.item.specs.declared.table.Item.{Item}
 use Rattle.item.specs.declared.table.Lookup.the-variants.{Listed}
 use Rattle.energy.specs.Energies.{Rows}
 use Rattle.meter_counting.specs.Counting as counting
 use Rattle.meter_counting.specs.Counting.{energiesOf}
-use Rattle.meter_counting.specs.Said as counting-said
-use Rattle.meter_counting.specs.Said.{hostSaid, ReadingsAsBefore}
+use Rattle.meter_counting.specs.Said as counted
+use Rattle.meter_counting.specs.Said.{hostSaid, Countable}
 use Rattle.meter_holding.specs.Holding.{locationOf, valueWritten, registersAfter}
-use Rattle.meter_holding.specs.Said.{heldSaid, value-as-before, registers-as-before}
+use Rattle.meter_holding.specs.Said.{heldSaid, HasRoom, value-refuses, registers-as-before}
 use Rattle.meter_holding.specs.declared.location.Location.the-variants.{Register}
-use Rattle.meter.specs.Meter.{MeterSized, withinRanges}
+use Rattle.meter.specs.Meter.{MeterSized}
+use Rattle.meter.specs.Ranges.{InRanges}
 use Rattle.meter.specs.Host.{created, keySet, pulsedBy, settledBy}
 use Rattle.meter.specs.Answer.{answered}
-use Rattle.meter.specs.Said.{frameSaid, fresh-refused, key-as-before, pulse-as-before, settle-as-before, frame-as-before}
+use Rattle.meter.specs.Said.{frameSaid, Whole, fresh-refused, key-refuses, pulse-refuses, settle-refuses, frame-refuses}
+use Rattle.meter.specs.declared.FrameAnswer.the-variants as frames
 use Rattle.meter.specs.declared.Meter.{Meter}
+use Rattle.reader.specs.Allowed.{RequestSized}
 use Rattle.reader.specs.Building.{built}
 use Rattle.reader.specs.Judging.{judged}
-use Rattle.reader.specs.Said.{builtSaid, build-as-before, judge-as-before}
+use Rattle.reader.specs.JudgeWords.{judgeWords}
+use Rattle.reader.specs.Said.{builtSaid, CannotBuild, build-refuses, judge-refuses}
 use Rattle.reader.specs.declared.Request.{Request}
 use Rattle.reader_judgement.specs.Said.{judgementSaid}
 use Rattle.exchange.specs.Exchange.{Memories}
 use Rattle.exchange.specs.ExchangeTerms.{Typed}
 use Rattle.exchange.specs.Said.{ExchangeAnswers, exchange-answers}
 
--- A refusal, by whatever number, changes nothing.
+-- Each operation refuses exactly where the papers say so, and a refusal, by whatever number, changes nothing.
 pub record RefusalsChangeNothing : Type 0 where
   -- The receiver, with a byte or a silence.
   pub receiver : (s : Symbol) (r : Receiver) (m : List ℕ)
-      → let o = called s r m in let said = receiverSaid (o .answer .answer) in AsBefore said r (o .answer .receiver) × AsBefore said m (o .memory)
+      → let o = called s r m in
+      Refuses {S = Receiver × List ℕ} (receiverSaid (o .answer .answer)) (CannotHear r m) (r, m) (o .answer .receiver, o .memory)
   -- A recorded line: a block, a step, a step of the listing, the text of one frame, and a whole line as one function.
-  pub read-block : (block : List ℕ) (ended : Bool) (m : List ℕ) → let o = blockRead block ended m in AsBefore (blockSaid (o .answer)) m (o .memory)
+  pub read-block : (block : List ℕ) (ended : Bool) (m : List ℕ)
+      → let o = blockRead block ended m in Refuses (blockSaid (o .answer)) (length m < length block) m (o .memory)
   pub read-step : (kept read : ℕ) (ended : Bool) (buffer m : List ℕ)
-      → let o = stepRead kept read ended buffer m in AsBefore (stepSaid (o .answer)) buffer (o .buffer) × AsBefore (stepSaid (o .answer)) m (o .memory)
-  pub list-step : (kept read : ℕ) (buffer frames text : List ℕ) → StepAsBefore buffer frames text (stepListed kept read buffer frames text)
-  pub list-frame : (frame m : List ℕ) → AsBefore (listedSaid (listing frame m .answer)) m (listing frame m .memory)
-  pub receive-line : (input m : List ℕ) → length input < 2 ^ 64 - 1 → AsBefore (lineSaid (receivedLine input m .answer)) m (receivedLine input m .memory)
+      → let o = stepRead kept read ended buffer m in
+      Refuses {S = List ℕ × List ℕ} (stepSaid (o .answer)) ((length buffer < kept + read) ⊎ (length m < kept + read)) (buffer, m) (o .buffer, o .memory)
+  pub list-step : (kept read : ℕ) (buffer frames text : List ℕ)
+      → let o = stepListed kept read buffer frames text in
+      Refuses {S = List ℕ × List ℕ × List ℕ} (stepListedSaid (o .answer)) (TooShort (kept + read) buffer frames text) (buffer, frames, text) (o .buffer, o .frames, o .text)
+  pub list-frame : (frame m : List ℕ) → let o = listing frame m in Refuses (listedSaid (o .answer)) (CannotList frame m) m (o .memory)
+  pub receive-line : (input m : List ℕ) → length input < 2 ^ 64 - 1
+      → let o = receivedLine input m in Refuses (lineSaid (o .answer)) (length m < length input) m (o .memory)
   -- A frame written from its parts, and a number packed.
   pub write-frame : (address : List ℕ) (control : ℕ) (payload m : List ℕ)
-      → AsBefore (writtenSaid (writing address control payload m .answer)) m (writing address control payload m .memory)
+      → let o = writing address control payload m in Refuses (writtenSaid (o .answer)) (CannotWrite (length payload) m) m (o .memory)
   pub write-frame-in-place : (address : List ℕ) (control count : ℕ) (m : List ℕ)
-      → AsBefore (writtenSaid (writingInPlace address control count m .answer)) m (writingInPlace address control count m .memory)
-  pub pack : (n : ℕ) (m : List ℕ) → AsBefore (packedSaid (packing n m .answer)) m (packing n m .memory)
-  -- A meter that is refused when it is made is refused by every operation.
-  pub fresh-meter : (address : List ℕ) → IsRefusal (hostSaid (created address .answer))
-      → withinRanges (created address .meter) (created address .energies .forward) (created address .energies .reverse) ≡ false
+      → let o = writingInPlace address control count m in Refuses (writtenSaid (o .answer)) (CannotWrite count m) m (o .memory)
+  pub pack : (n : ℕ) (m : List ℕ) → let o = packing n m in Refuses (packedSaid (o .answer)) (100 ^ length m ≤ n) m (o .memory)
+  -- A fresh meter: what comes back with a refusal is refused by every operation with 16.
+  pub fresh-meter : (address : List ℕ)
+      → let c = created address in
+      (IsRefusal (hostSaid (c .answer)) ↔ (Good address → ⊥))
+      × (IsRefusal (hostSaid (c .answer)) → InRanges (c .meter) (c .energies .forward) (c .energies .reverse) → ⊥)
   -- The calls of the host.
-  pub set-key : (on : Bool) (m : Meter) (forward reverse : Rows) → let k = keySet on m forward reverse in AsBefore (hostSaid (k .answer)) m (k .meter)
+  pub set-key : (on : Bool) (m : Meter) (forward reverse : Rows)
+      → let k = keySet on m forward reverse in Refuses (hostSaid (k .answer)) (InRanges m forward reverse → ⊥) m (k .meter)
   pub pulse : (amount direction rate : ℕ) (m : Meter) (forward reverse : Rows)
       → let c = pulsedBy amount direction rate m forward reverse in
-      LeftAlone m (c .meter) × AsBefore (hostSaid (c .answer)) (energiesOf forward reverse) (c .energies)
+      Refuses {S = Whole} (hostSaid (c .answer)) (InRanges m forward reverse × Countable direction rate → ⊥) (m, energiesOf forward reverse) (c .meter, c .energies)
   pub settle : (m : Meter) (forward reverse : Rows)
-      → let c = settledBy m forward reverse in LeftAlone m (c .meter) × AsBefore (hostSaid (c .answer)) (energiesOf forward reverse) (c .energies)
-  -- A pulse and a settlement counted, whatever the caller says of the ranges.
+      → let c = settledBy m forward reverse in
+      Refuses {S = Whole} (hostSaid (c .answer)) (InRanges m forward reverse → ⊥) (m, energiesOf forward reverse) (c .meter, c .energies)
+  -- A pulse and a settlement counted, by what the caller says of the ranges.
   pub count-pulse : (amount direction rate : ℕ) (within : Bool) (forward reverse : Rows)
-      → ReadingsAsBefore forward reverse (counting.pulsedBy amount direction rate within forward reverse)
-  pub count-settle : (within : Bool) (forward reverse : Rows) → ReadingsAsBefore forward reverse (counting.settledBy within forward reverse)
-  -- A frame put to a meter; a value that is not written, and registers that take none.
+      → let c = counting.pulsedBy amount direction rate within forward reverse in
+      Refuses (hostSaid (c .answer)) ((within ≡ true) × Countable direction rate → ⊥) (energiesOf forward reverse) (c .energies)
+  pub count-settle : (within : Bool) (forward reverse : Rows)
+      → let c = counting.settledBy within forward reverse in Refuses (hostSaid (c .answer)) (within ≡ true → ⊥) (energiesOf forward reverse) (c .energies)
+  -- A frame put to a meter: where it is refused, `FrameIsRight` says. A value that is not written, and registers that take none.
   pub frame : (bytes : List ℕ) (m : Meter) (forward reverse : Rows) (memory : List ℕ)
-      → let o = answered bytes m forward reverse memory in let said = frameSaid (o .answer .answer) in
-      AsBefore said m (o .answer .meter) × AsBefore said memory (o .memory)
+      → let o = answered bytes m forward reverse memory in
+      Refuses {S = Meter × List ℕ} (frameSaid (o .answer .answer)) ((n : ℕ) × (o .answer .answer ≡ frames.Refused n)) (m, memory) (o .answer .meter, o .memory)
   pub write-value : (identifier : ℕ) (address registers : List ℕ) (forward reverse : Rows) (m : List ℕ)
-      → let o = valueWritten identifier address registers forward reverse m in AsBefore (heldSaid (o .answer)) m (o .memory)
+      → let o = valueWritten identifier address registers forward reverse m in Refuses (heldSaid (o .answer)) (HasRoom identifier m → ⊥) m (o .memory)
   pub with-value : (identifier : ℕ) (value registers : List ℕ)
       → ((item : Item) (at : ℕ) → itemOf identifier ≡ Listed item → locationOf (item .kind) ≡ Register at → length value ≡ item .length → ⊥)
       → LeftAlone registers (registersAfter identifier value registers)
   -- The reader's end.
-  pub build : (request : Request) (m : List ℕ) → AsBefore (builtSaid (built request m .answer)) m (built request m .memory)
-  pub judge : (request : Request) (bytes m : List ℕ) → AsBefore (judgementSaid (judged request bytes m .answer)) m (judged request bytes m .memory)
+  pub build : (request : Request) (m : List ℕ) → RequestSized request
+      → let o = built request m in Refuses (builtSaid (o .answer)) (CannotBuild request m) m (o .memory)
+  pub judge : (request : Request) (bytes m : List ℕ) → RequestSized request
+      → let o = judged request bytes m in Refuses (judgementSaid (o .answer)) ((n : ℕ) × FirstFails (judgeWords request bytes m) n) m (o .memory)
   -- An exchange: a refusal, a silence, and what the reader makes of a reply.
   pub exchange : (request : Request) (m : Meter) (forward reverse : Rows) (lent : Memories) → Typed request → MeterSized m
       → ExchangeAnswers request m forward reverse lent
@@ -103,25 +125,25 @@ pub record RefusalsChangeNothing : Type 0 where
 pub demand-1 : RefusalsChangeNothing
 demand-1 =
     record {
-      receiver = call-as-before;
-      read-block = block-as-before;
-      read-step = step-as-before;
-      list-step = list-step-as-before;
-      list-frame = listing-as-before;
-      receive-line = line-as-before;
-      write-frame = writing-as-before;
-      write-frame-in-place = in-place-as-before;
-      pack = packing-as-before;
+      receiver = call-refuses;
+      read-block = block-refuses;
+      read-step = step-refuses;
+      list-step = list-step-refuses;
+      list-frame = listing-refuses;
+      receive-line = line-refuses;
+      write-frame = writing-refuses;
+      write-frame-in-place = in-place-refuses;
+      pack = packing-refuses;
       fresh-meter = fresh-refused;
-      set-key = key-as-before;
-      pulse = pulse-as-before;
-      settle = settle-as-before;
-      count-pulse = counting-said.pulse-as-before;
-      count-settle = counting-said.settle-as-before;
-      frame = frame-as-before;
-      write-value = value-as-before;
+      set-key = key-refuses;
+      pulse = pulse-refuses;
+      settle = settle-refuses;
+      count-pulse = counted.pulse-refuses;
+      count-settle = counted.settle-refuses;
+      frame = frame-refuses;
+      write-value = value-refuses;
       with-value = registers-as-before;
-      build = build-as-before;
-      judge = judge-as-before;
+      build = build-refuses;
+      judge = judge-refuses;
       exchange = exchange-answers;
     }
