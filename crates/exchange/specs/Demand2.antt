@@ -30,7 +30,6 @@ use Rattle.exchange.specs.RequestFrameLaws.{request-frame}
 use Rattle.exchange.specs.Reads.{read-gives}
 use Rattle.exchange.specs.WritesAcross.{write-sets, write-fails}
 use Rattle.exchange.specs.Foreign.{gets-silence}
-use Rattle.item_command.specs.Reply.{notAuthorised}
 
 -- What holds of an exchange of a request with a meter.
 pub record ExchangeIsRight (request : Request) (m : Meter) (forward reverse : Rows) (lent : Memories) : Type 0 where
@@ -40,7 +39,7 @@ pub record ExchangeIsRight (request : Request) (m : Meter) (forward reverse : Ro
   pub read : IsRead (request .action) → MeantFor request m → ReadGives request m forward reverse lent
   -- A write meant for this meter sets the value and the operator code exactly when every check holds.
   pub written : request .action ≡ WriteData → MeantFor request m → Authorised request m → WriteSets request m forward reverse lent
-  pub not-written : request .action ≡ WriteData → MeantFor request m → (Authorised request m → ⊥) → WriteFails request m forward reverse lent notAuthorised
+  pub not-written : request .action ≡ WriteData → MeantFor request m → (Authorised request m → ⊥) → WriteFails request m forward reverse lent 0x04
   -- A request to another address gets silence.
   pub foreign : (MeantFor request m → ⊥) → GetsSilence request m forward reverse lent
 

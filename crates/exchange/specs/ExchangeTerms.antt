@@ -6,7 +6,6 @@ use mathlib.Core.Bool.{true}
 use lib.ListN.{length}
 use Rattle.frame.specs.Frame.{frameFor}
 use Rattle.laws.specs.Memory.{Bytes, over}
-use Rattle.frame.specs.Refusals.{notForThisMeter}
 use Rattle.item.specs.Table.{itemOf}
 use Rattle.item.specs.declared.table.Item.{Item}
 use Rattle.item.specs.declared.table.Lookup.the-variants.{Listed}
@@ -113,4 +112,4 @@ WriteFails request m forward reverse lent byte =
 -- A request to another address gets silence, and nothing moved.
 abbrev pub GetsSilence : Request → Meter → Rows → Rows → Memories → Type 0
 GetsSilence request m forward reverse lent =
-    exchanged request m forward reverse lent ≡ comesTo request m (Silent notForThisMeter) [] [] lent
+    exchanged request m forward reverse lent ≡ comesTo request m (Silent 3) [] [] lent

@@ -1,7 +1,6 @@
 -- Requests to another address get silence: the control code of a request asks for the one command of its action, and that is not for this meter.
 use mathlib.Core.Path.{_≡_, sym, _∙_}
 use mathlib.Core.Bool.{true}
-use Rattle.frame.specs.Refusals.{notForThisMeter}
 use Rattle.energy.specs.Energies.{Rows}
 use Rattle.meter.specs.Meter.{MeterSized}
 use Rattle.meter.specs.Ranges.{InRanges}
@@ -27,6 +26,6 @@ module _ (request : Request) (typed : Typed request) (allowed : isAllowed reques
 
   pub gets-silence : (MeantFor request m → ⊥) → GetsSilence request m forward reverse lent
   gets-silence foreign =
-      silent-exchange request typed allowed m forward reverse ranges lent room notForThisMeter
+      silent-exchange request typed allowed m forward reverse ranges lent room 3
       (foreign-silent (requestFrame request) m forward reverse (lent .reply) sized ranges (room .reply) (request-frame request typed allowed)
       (frame-foreign foreign))

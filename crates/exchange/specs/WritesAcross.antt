@@ -10,7 +10,7 @@ use lib.Seq.{length-take-le}
 use Rattle.frame.specs.Frame.{addressOf, controlOf, dataOf}
 use Rattle.laws.specs.Memory.{outcome}
 use Rattle.laws.specs.Checks.{firstFailing}
-use Rattle.item_command.specs.Reply.{controlCode, replyTo, notAuthorised}
+use Rattle.item_command.specs.Reply.{controlCode, replyTo}
 use Rattle.item_same.specs.SameLaws.{equal-same}
 use Rattle.item.specs.Table.{itemOf}
 use Rattle.item.specs.declared.table.Lookup.the-variants.{Listed}
@@ -187,8 +187,8 @@ module _ (request : Request) (typed : Typed request) (allowed : isAllowed reques
       done : ValueSet (requestFrame request) m forward reverse (lent .reply) (checks .row .1 .0 .0)
       done = accepted-write (requestFrame request) m forward reverse (lent .reply) sized checks
 
-  pub write-fails : request .action ≡ WriteData → MeantFor request m → (Authorised request m → ⊥) → WriteFails request m forward reverse lent notAuthorised
+  pub write-fails : request .action ≡ WriteData → MeantFor request m → (Authorised request m → ⊥) → WriteFails request m forward reverse lent 0x04
   unfolding isNormal isError replyTo controlCode dataJudgement firstFailing errorChecks
   write-fails writes for-meter unauthorised =
-      replied-exchange request typed allowed m forward reverse ranges lent room (untouched m) (m .address) 0xD4 (notAuthorised ∷ []) (sized .address) (omega arith)
-      (omega arith, tt) (answered-04 writes for-meter unauthorised) (rw writes) (from-own writes for-meter) (Error notAuthorised) [] (rw writes) refl
+      replied-exchange request typed allowed m forward reverse ranges lent room (untouched m) (m .address) 0xD4 (0x04 ∷ []) (sized .address) (omega arith)
+      (omega arith, tt) (answered-04 writes for-meter unauthorised) (rw writes) (from-own writes for-meter) (Error 0x04) [] (rw writes) refl

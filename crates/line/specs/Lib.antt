@@ -7,3 +7,4 @@ pub mod CallCases
 pub mod DeliversLaws
 pub mod RefusalWords
 pub mod Said
+pub mod SaidLaws

@@ -10,7 +10,7 @@ use Rattle.item_range.specs.RangeLaws.{within-iff}
 use Rattle.laws.specs.AllLaws.{all-take, all-set}
 use Rattle.laws.specs.TestLaws.{pick-cases}
 use Rattle.energy.specs.Reading.{Reading, noReading, plusAmount}
-use Rattle.energy.specs.ReadingLaws.{plus-in-range}
+use Rattle.energy.specs.ReadingLaws.{reading-most, plus-in-range}
 use Rattle.energy.specs.Energies.{Rows}
 use Rattle.energy.specs.RangeLaws.{ReadingInRange, RowInRange, RowsInRange}
 use Rattle.meter_counting.specs.Rows.{isRate, pulsedRow, pulsedRows, pulsed, settled}
@@ -45,8 +45,8 @@ pulsed-in-range rows amount rate h = pick-cases RowsInRange (isRate rate) (λ _.
     go [] h = tt
     go (row ∷ rows) h =
         let total : List Reading = set row 0 (plusAmount (getD row 0 noReading) amount) in
-        let first : RowInRange total = all-set ReadingInRange row 0 _ (h .0) (plus-in-range (getD row 0 noReading) amount) in
-        (all-set ReadingInRange total rate _ first (plus-in-range (getD row rate noReading) amount), h .1)
+        let first : RowInRange total = all-set ReadingInRange row 0 _ (h .0) (reading-most _ .0 (plus-in-range (getD row 0 noReading) amount)) in
+        (all-set ReadingInRange total rate _ first (reading-most _ .0 (plus-in-range (getD row rate noReading) amount)), h .1)
 
 pub settled-in-range : (rows : Rows) → RowsInRange rows → RowsInRange (settled rows)
 unfolding settled

@@ -76,7 +76,7 @@ module _ (payload : List ℕ) where
     )
 
   -- The level and its password.
-  right-password : (most : ℕ) (passwords : List ℕ)
+  pub right-password : (most : ℕ) (passwords : List ℕ)
       → (authorised most (levelOf payload) (passwordOf payload) passwords ≡ true) ↔ RightPassword most payload passwords
   unfolding authorised
   right-password most passwords = (

@@ -7,3 +7,4 @@ pub mod DecisionLaws
 pub mod DecisionWords
 pub mod DecisionWordsLaws
 pub mod Said
+pub mod SaidLaws

@@ -8,3 +8,4 @@ pub mod JudgingLaws
 pub mod JudgeWords
 pub mod JudgeWordsLaws
 pub mod Said
+pub mod SaidLaws

@@ -37,12 +37,12 @@ pub record AllowedRead (to : List ℕ) (identifier : ℕ) : Type 0 where
 
 -- A write of a writable identifier to a good address: level 00 to 09, length and content as the meter checks them. The value is the first
 -- `count` of the bytes; password and operator code are any bytes.
-pub record AllowedWrite (to : List ℕ) (identifier most : ℕ) (bytes : List ℕ) (count : ℕ) : Type 0 where
+pub record AllowedWrite (to : List ℕ) (identifier at-level : ℕ) (bytes : List ℕ) (count : ℕ) : Type 0 where
   pub address : Good to
   pub item : Item
   pub listed : itemOf identifier ≡ Listed item
   pub writable : item .writable ≡ true
-  pub level : most ≤ 9
+  pub level : at-level ≤ 9
   pub data-length : count ≡ item .length
   pub decimal : Decimal (take count bytes)
   pub range : Range (item .kind) (take count bytes)
