@@ -28,7 +28,7 @@ use Rattle.exchange.specs.ExchangeTerms.{Typed, MeantFor, IsRead, Enough
 use Rattle.exchange.specs.Said.{ExchangeRefuses, exchange-refuses}
 use Rattle.exchange.specs.RequestFrameLaws.{request-frame}
 use Rattle.exchange.specs.Reads.{read-gives}
-use Rattle.exchange.specs.WritesAcross.{write-sets, write-fails}
+use Rattle.exchange.specs.WritesAcross.{write-sets, write-failed}
 use Rattle.exchange.specs.Foreign.{gets-silence}
 
 -- What holds of an exchange of a request with a meter.
@@ -53,7 +53,7 @@ exchange-is-right request typed words m forward reverse sized ranges lent room =
       heard = λ calls brings called. delivered-last (requestFrame request) (request-frame request typed allowed) calls brings called;
       read = read-gives request typed allowed m forward reverse sized ranges lent room;
       written = write-sets request typed allowed m forward reverse sized ranges lent room;
-      not-written = write-fails request typed allowed m forward reverse sized ranges lent room;
+      not-written = write-failed request typed allowed m forward reverse sized ranges lent room;
       foreign = gets-silence request typed allowed m forward reverse sized ranges lent room;
     }
 

@@ -10,7 +10,7 @@ use Rattle.item.specs.Table.{itemOf}
 use Rattle.item.specs.declared.table.Item.{Item}
 use Rattle.item.specs.declared.table.Lookup.the-variants.{Listed}
 use Rattle.energy.specs.Energies.{Rows}
-use Rattle.meter.specs.Meter.{valueHeld, untouched}
+use Rattle.meter.specs.Meter.{AllKept, valueHeld, untouched}
 use Rattle.meter_decision.specs.Decision.{passwordAt}
 use Rattle.meter.specs.Ranges.{InRanges}
 use Rattle.meter.specs.Answer.{valueOf}
@@ -72,12 +72,13 @@ comesTo request after answer reply value lent =
     outcomeOf (exchangedWith after answer (length (requestFrame request)) (length reply))
     (memories (over (requestBytes request) (lent .sent)) (over (requestFrame request) (lent .heard)) (over reply (lent .reply)) (over value (lent .value)))
 
--- A read gives the reader exactly what the meter holds, and leaves the meter untouched. For 00 01 t s, 00 01 FF s and 00 01 t FF these bytes
--- decode to the forward readings at row s and column t, for 00 02 to the reverse ones.
+-- A read gives the reader exactly what the meter holds, and leaves the meter untouched: everything that it holds is as it was. For 00 01 t s,
+-- 00 01 FF s and 00 01 t FF the bytes decode to the forward readings at row s and column t, for 00 02 to the reverse ones.
 pub record ReadGives (request : Request) (m : Meter) (forward reverse : Rows) (lent : Memories) : Type 0 where
   pub outcome : let held = heldFor (request .action) (request .identifier) m forward reverse in
       exchanged request m forward reverse lent
       ≡ comesTo request (untouched m) (Judged (Value (length held))) (replyFrame (request .action) (request .identifier) (m .address) held) held lent
+  pub kept : AllKept m (untouched m)
   pub readings : let held = heldFor (request .action) (request .identifier) m forward reverse in request .action ≡ ReadData
       → GivesReadings 0x00010000 forward (request .identifier) held × GivesReadings 0x00020000 reverse (request .identifier) held
 
@@ -103,11 +104,11 @@ pub record WriteSets (request : Request) (m : Meter) (forward reverse : Rows) (l
   pub passwords : after .passwords ≡ m .passwords
   pub ranges : InRanges after forward reverse
 
--- A write that fails a check is answered by its error byte, and leaves the meter untouched.
-abbrev pub WriteFails : Request → Meter → Rows → Rows → Memories → ℕ → Type 0
-WriteFails request m forward reverse lent byte =
-    exchanged request m forward reverse lent
-    ≡ comesTo request (untouched m) (Judged (Error byte)) (frameFor (m .address) 0xD4 (byte ∷ [])) [] lent
+-- A write that fails a check is answered by its error byte, and leaves the meter untouched: everything that it holds is as it was.
+pub record WriteFails (request : Request) (m : Meter) (forward reverse : Rows) (lent : Memories) (byte : ℕ) : Type 0 where
+  pub outcome : exchanged request m forward reverse lent
+      ≡ comesTo request (untouched m) (Judged (Error byte)) (frameFor (m .address) 0xD4 (byte ∷ [])) [] lent
+  pub kept : AllKept m (untouched m)
 
 -- A request to another address gets silence, and nothing moved.
 abbrev pub GetsSilence : Request → Meter → Rows → Rows → Memories → Type 0

@@ -141,6 +141,7 @@ module _ (request : Request) (typed : Typed request) (allowed : isAllowed reques
   read-gives reads for-meter =
       record {
         outcome = outcome-by (request .action) refl reads for-meter;
+        kept = untouched-keeps m;
         readings =
             λ e. rw e (readings-held (request .identifier) (m .address) (m .registers) forward reverse (ranges .forward-readings) (ranges .reverse-readings));
       }

@@ -1,13 +1,13 @@
 -- Writes across the line: the value and the operator code are set exactly when every check holds. What a meter reads off an allowed request is
 -- what the request says, so that of the meter's checks only key, level and password are open; either reply is one that the reader takes.
-use Prim.Native.Nat.{ℕ, _+_, _≤_}
+use Prim.Native.Nat.{ℕ, _+_, _/_, _%_, _≤_}
 use mathlib.Core.Path.{_≡_, refl, sym, ap, subst, _∙_}
 use mathlib.Core.List.{List, [], _∷_}
 use mathlib.Core.Bool.{true}
 use native.Mathlib.Omega.{arith}
 use lib.ListN.{length}
 use lib.Seq.{length-take-le}
-use Rattle.frame.specs.Frame.{addressOf, controlOf, dataOf}
+use Rattle.frame.specs.Frame.{addressOf, controlOf, dataOf, frameFor}
 use Rattle.laws.specs.Memory.{outcome}
 use Rattle.laws.specs.Checks.{firstFailing}
 use Rattle.item_command.specs.Reply.{controlCode, replyTo}
@@ -16,6 +16,7 @@ use Rattle.item.specs.Table.{itemOf}
 use Rattle.item.specs.declared.table.Lookup.the-variants.{Listed}
 use Rattle.energy.specs.Energies.{Rows}
 use Rattle.meter.specs.Meter.{MeterSized, untouched}
+use Rattle.meter.specs.MeterLaws.{untouched-keeps}
 use Rattle.meter.specs.Ranges.{InRanges}
 use Rattle.meter_decision.specs.Request.{levelOf, passwordOf, operatorOf, writtenValue}
 use Rattle.item_identifier.specs.Identifier.{identifierOf, identifierBytes}
@@ -39,7 +40,7 @@ use Rattle.reader_judgement.specs.declared.Action.{Action}
 use Rattle.reader_judgement.specs.declared.Action.the-variants.{WriteData}
 use Rattle.reader_judgement.specs.declared.Judgement.the-variants.{Value, Error}
 use Rattle.reader.specs.declared.Request.{Request}
-use Rattle.exchange.specs.Exchange.{Memories}
+use Rattle.exchange.specs.Exchange.{Memories, exchanged}
 use Rattle.exchange.specs.ExchangeTerms.{Typed, MeantFor, replyFrame, EnoughMemory, comesTo, Authorised, WriteSets, WriteFails}
 use Rattle.exchange.specs.RequestFrameLaws.{request-frame, request-address, request-control, request-data, replied-exchange}
 use Rattle.item_identifier.specs.IdentifierLaws.{identifier-back}
@@ -68,7 +69,11 @@ reads-off request typed few =
       count = length-take-le (request .count) (request .value) (omega (arith, typed .sized .value));
     }
   where
-    parts : WriteParts (sentData WriteData request) (request .level) (request .password) (request .operator) (requestValue request)
+    identifier : ℕ
+    identifier = request .identifier
+
+    parts : WriteParts (sentData WriteData request) (identifier % 256) (identifier / 256 % 256) (identifier / 65536 % 256) (identifier / 16777216 % 256)
+        (request .level) (request .password) (request .operator) (requestValue request)
     parts = write-parts _ _ _ _ (request .level) (request .password) (typed .sized .password) (request .operator) (requestValue request) (typed .sized .operator)
 
 module _ (request : Request) (typed : Typed request) (allowed : isAllowed request ≡ true) (m : Meter) (forward reverse : Rows) (sized : MeterSized m)
@@ -187,8 +192,13 @@ module _ (request : Request) (typed : Typed request) (allowed : isAllowed reques
       done : ValueSet (requestFrame request) m forward reverse (lent .reply) (checks .row .1 .0 .0)
       done = accepted-write (requestFrame request) m forward reverse (lent .reply) sized checks
 
-  pub write-fails : request .action ≡ WriteData → MeantFor request m → (Authorised request m → ⊥) → WriteFails request m forward reverse lent 0x04
+  -- A write that is not authorised is answered by error byte 04, and everything that the meter holds is as it was.
+  pub write-fails : request .action ≡ WriteData → MeantFor request m → (Authorised request m → ⊥) → exchanged request m forward reverse lent
+      ≡ comesTo request (untouched m) (Judged (Error 0x04)) (frameFor (m .address) 0xD4 (0x04 ∷ [])) [] lent
   unfolding isNormal isError replyTo controlCode dataJudgement firstFailing errorChecks
   write-fails writes for-meter unauthorised =
       replied-exchange request typed allowed m forward reverse ranges lent room (untouched m) (m .address) 0xD4 (0x04 ∷ []) (sized .address) (omega arith)
       (omega arith, tt) (answered-04 writes for-meter unauthorised) (rw writes) (from-own writes for-meter) (Error 0x04) [] (rw writes) refl
+
+  pub write-failed : request .action ≡ WriteData → MeantFor request m → (Authorised request m → ⊥) → WriteFails request m forward reverse lent 0x04
+  write-failed writes for-meter unauthorised = record { outcome = write-fails writes for-meter unauthorised; kept = untouched-keeps m }

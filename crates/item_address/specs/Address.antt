@@ -18,10 +18,10 @@ broadcast = replicate 6 0x99
 abbrev pub wildcards : List ℕ
 wildcards = replicate 6 0xAA
 
--- Good: decimal and not the broadcast address.
+-- Good: decimal and not 999999999999.
 pub record Good (address : List ℕ) : Type 0 where
   pub decimal : Decimal address
-  pub no-broadcast : address ≡ broadcast → ⊥
+  pub no-broadcast : address ≡ replicate 6 0x99 → ⊥
 
 unfoldable pub isGood : List ℕ → Bool
 isGood address = allDecimal address && not (same address broadcast)

@@ -3,6 +3,7 @@ use Prim.Native.Nat.{ℕ}
 use mathlib.Core.Path.{_≡_}
 use mathlib.Core.List.{List}
 use mathlib.Core.Bool.{Bool, _||_}
+use lib.ListN.{replicate}
 use Rattle.item_address.specs.Address.{wildcards, shortMatches, ShortFor}
 use Rattle.item_same.specs.Same.{same}
 use Rattle.item_command.specs.declared.Command.{Command}
@@ -36,7 +37,7 @@ pub data ReadFor (address own : List ℕ) : Type 0 where
 -- Document 01's check 4 in words.
 abbrev pub IsFor : Command → List ℕ → List ℕ → Type 0
 IsFor ReadData address own = ReadFor address own
-IsFor ReadAddress address own = address ≡ wildcards
+IsFor ReadAddress address own = address ≡ replicate 6 0xAA
 IsFor WriteData address own = address ≡ own
-IsFor WriteAddress address own = address ≡ wildcards
+IsFor WriteAddress address own = address ≡ replicate 6 0xAA
 IsFor ChangePassword address own = address ≡ own

@@ -1,6 +1,5 @@
 -- Document 01, "How the meter treats a frame, checks in this order".
 use Prim.Native.Nat.{ℕ, _+_, _*_}
-use mathlib.Core.Path.{_≡_}
 use mathlib.Core.List.{List, [], _∷_, _++_}
 use mathlib.Core.Bool.{true, false}
 use lib.ListN.{length, take}
@@ -15,7 +14,7 @@ use Rattle.item_command.specs.Reply.{replyTo}
 use Rattle.item.specs.declared.table.Lookup.{Lookup}
 use Rattle.item.specs.declared.table.Lookup.the-variants.{Listed, NotListed}
 use Rattle.energy.specs.Energies.{Rows}
-use Rattle.meter.specs.Meter.{untouched, withAddress, withPasswords, withValue, noted, valueHeld, withinRanges}
+use Rattle.meter.specs.Meter.{AllKept, untouched, withAddress, withPasswords, withValue, noted, withinRanges}
 use Rattle.meter_decision.specs.Decision.{Failure, errorByte, silence, checksOf}
 use Rattle.meter_holding.specs.Holding as holding
 use Rattle.meter_holding.specs.Holding.{locationOf}
@@ -112,7 +111,7 @@ answered bytes m forward reverse memory =
     (refused shortMemory m memory))
     (refused outOfRange m memory)
 
--- A frame moved nothing: a refusal leaves the meter alone, and a reply leaves it untouched.
+-- A frame moved nothing: a refusal leaves the meter alone, and under a reply everything that it holds is as it was.
 abbrev pub Unmoved : FrameAnswer → Meter → Meter → Type 0
 Unmoved (Refused n) m after = LeftAlone m after
-Unmoved (Replied n) m after = after ≡ untouched m
+Unmoved (Replied n) m after = AllKept m after

@@ -16,8 +16,8 @@ use Rattle.item_command.specs.declared.Command.the-variants.{ReadData, ReadAddr
 use Rattle.energy.specs.Energies.{Rows}
 use Rattle.meter_decision.specs.Decision.{passwordAt}
 use Rattle.meter_decision.specs.Request.{itemAsked, writtenValue, newLevelOf, newPasswordOf}
-use Rattle.meter.specs.Meter.{MeterSized, untouched}
-use Rattle.meter.specs.MeterLaws.{AllKept, untouched-keeps, untouched-sized}
+use Rattle.meter.specs.Meter.{MeterSized, AllKept, untouched}
+use Rattle.meter.specs.MeterLaws.{untouched-keeps, untouched-sized}
 use Rattle.meter.specs.MeterAfterLaws.{only-registers-of, sized-after, address-kept}
 use Rattle.meter.specs.Answer.{replyData, meterAfter, delivered}
 use Rattle.meter.specs.AnswerLaws.{Answers, refuses, errs, carries, answers, not-replied, reply-control}
@@ -127,7 +127,7 @@ module _ (bytes : List ℕ) (m : Meter) (forward reverse : Rows) (memory : List 
                 (normal-only another command true
                 (sym (reply-control bytes m forward reverse memory _ (b ∷ []) (untouched m) (untouched-sized m sized .address) e) ∙ c) .1);
             kept = rw e (kept-as-it-was command (untouched m) (untouched-keeps m));
-            unmoved = λ c. rw e refl;
+            unmoved = λ c. rw e (untouched-keeps m);
           }
       go (carries another w all e) =
           record {

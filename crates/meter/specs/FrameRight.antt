@@ -38,6 +38,7 @@ frame-is-right bytes m forward reverse memory sized =
       foreign =
           λ ranges room frame none. foreign-silent bytes m forward reverse memory sized ranges room frame
           (λ command control for-meter. none command (control-figure command (controlOf bytes) .0 control) for-meter);
+      untouched-kept = untouched-keeps m;
       error = error-replied bytes m forward reverse memory sized;
       silent = kept-silent bytes m forward reverse memory sized;
       read = λ w. normally bytes m forward reverse memory sized ReadData w (m .address) (untouched-keeps m .address);

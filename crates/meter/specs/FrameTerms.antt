@@ -19,7 +19,7 @@ use Rattle.meter_decision.specs.Decision.{Failure, errorByte, silence, password
 use Rattle.meter_decision.specs.DecisionWords.{wordsOf}
 use Rattle.meter_decision.specs.Request.{operatorOf, writtenValue, newLevelOf, newPasswordOf}
 use Rattle.meter_holding.specs.Holding.{valueFor}
-use Rattle.meter.specs.Meter.{valueHeld, untouched}
+use Rattle.meter.specs.Meter.{AllKept, valueHeld, untouched}
 use Rattle.meter.specs.Ranges.{InRanges}
 use Rattle.meter.specs.Answer.{answeredWith, refused, answered, Unmoved}
 use Rattle.meter.specs.declared.FrameAnswer.the-variants.{Replied}
@@ -118,6 +118,8 @@ module _ (bytes : List ℕ) (m : Meter) (forward reverse : Rows) (memory : List 
     pub foreign : InRanges m forward reverse → 212 ≤ length memory → Frame bytes
         → ((command : Command) → IsControl command (controlOf bytes) → IsFor command (addressOf bytes) (m .address) → ⊥)
         → answered bytes m forward reverse memory ≡ refused 3 m memory
+    -- What is left untouched is as it was, field by field.
+    pub untouched-kept : AllKept m (untouched m)
     -- The first failing check of the table's row answers: with its error byte, and the meter is left untouched; or with silence.
     pub error : (command : Command) → PutTo command → (e : ℕ) → RowFails command (errorByte e)
         → RepliesWith (untouched m) (m .address) (errorFigure command) (e ∷ [])

@@ -12,6 +12,7 @@ use Rattle.item_address.specs.AddressLaws.{good, is-good}
 use Rattle.energy.specs.Reading.{Reading, numberOf, zeroReading, noReading}
 use Rattle.energy.specs.ReadingLaws.{number-zero}
 use Rattle.energy.specs.Energies.{Rows, zeroRows, readingAt, numberAt}
+use Rattle.meter_counting.specs.CountingWords.{OfFive, Sized}
 use Rattle.meter_counting.specs.declared.HostAnswer.the-variants.{Done, Refused}
 use Rattle.meter_holding.specs.Holding.{valueFor}
 use Rattle.meter_holding.specs.FreshWords.{FreshHolds, fresh-holds}
@@ -22,8 +23,8 @@ use Rattle.meter.specs.Meter.{freshMeter}
 abbrev pub ReadsZero : Rows → Type 0
 ReadsZero rows = (row column : ℕ) → numberAt rows row column ≡ 0
 
--- A good address makes a meter of it, any other is refused with 8. Key off, passwords and operator code zero, readings zero, and for each
--- item what document 01 lists.
+-- A good address makes a meter of it, any other is refused with 8. Key off, passwords and operator code zero, thirteen rows of five readings in
+-- each direction, all zero, and for each item what document 01 lists.
 pub record FreshIsRight (address : List ℕ) : Type 0 where
   pub made : Good address → created address .answer ≡ Done
   pub refused : (Good address → ⊥) → created address .answer ≡ Refused 8
@@ -31,6 +32,8 @@ pub record FreshIsRight (address : List ℕ) : Type 0 where
   pub key : created address .meter .key ≡ false
   pub passwords : created address .meter .passwords ≡ replicate 30 0x00
   pub operator : created address .meter .operator ≡ replicate 4 0x00
+  pub forward-sized : Sized (created address .energies .forward)
+  pub reverse-sized : Sized (created address .energies .reverse)
   pub forward-readings : ReadsZero (created address .energies .forward)
   pub reverse-readings : ReadsZero (created address .energies .reverse)
   pub items : let c = created address in
@@ -47,6 +50,9 @@ zero-read row column =
     let rows-zero : AllOf (AllOf Zero) zeroRows = all-replicate (AllOf Zero) 13 (replicate 5 zeroReading) row-zero in
     all-get Zero (getD zeroRows row []) column noReading (all-get (AllOf Zero) zeroRows row [] rows-zero tt) number-zero
 
+zero-sized : Sized zeroRows
+zero-sized = record { thirteen = refl; each = all-replicate OfFive 13 (replicate 5 zeroReading) refl }
+
 pub fresh-is-right : (address : List ℕ) → FreshIsRight address
 unfolding created freshMeter
 fresh-is-right address =
@@ -57,6 +63,8 @@ fresh-is-right address =
       key = refl;
       passwords = refl;
       operator = refl;
+      forward-sized = zero-sized;
+      reverse-sized = zero-sized;
       forward-readings = zero-read;
       reverse-readings = zero-read;
       items = fresh-holds address zeroRows zeroRows;

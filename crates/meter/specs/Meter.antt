@@ -40,6 +40,14 @@ abbrev pub noted : List ℕ → Meter → Meter
 noted operator m =
     record { address = m .address; key = m .key; passwords = m .passwords; operator = operator; registers = m .registers }
 
+-- Everything that a meter holds is as it was.
+pub record AllKept (m after : Meter) : Type 0 where
+  pub address : after .address ≡ m .address
+  pub key : after .key ≡ m .key
+  pub passwords : after .passwords ≡ m .passwords
+  pub operator : after .operator ≡ m .operator
+  pub registers : after .registers ≡ m .registers
+
 -- What an answered frame leaves of a meter that it is not to change: reads and error replies.
 unfoldable pub untouched : Meter → Meter
 untouched m = m

@@ -10,7 +10,7 @@ use Rattle.item.specs.declared.table.Lookup.the-variants.{Listed}
 use Rattle.energy.specs.Energies.{Rows}
 use Rattle.meter_holding.specs.Holding.{locationOf}
 use Rattle.meter_holding.specs.HoldingLaws as holding
-use Rattle.meter.specs.Meter.{MeterSized, untouched, valueHeld, withValue}
+use Rattle.meter.specs.Meter.{MeterSized, AllKept, untouched, valueHeld, withValue}
 use Rattle.meter.specs.declared.Meter.{Meter}
 
 module _ (identifier : ℕ) (item : Item) (listed : itemOf identifier ≡ Listed item) (m : Meter) (sized : MeterSized m) where
@@ -41,14 +41,6 @@ module _ (identifier : ℕ) (item : Item) (listed : itemOf identifier ≡ Listed
     value-other w other another h differ forward reverse =
         holding.value-other identifier item listed (m .address) (m .registers) (sized .address) (sized .registers) value e w other another h differ
         forward reverse
-
--- Everything that a meter holds is as it was.
-pub record AllKept (m after : Meter) : Type 0 where
-  pub address : after .address ≡ m .address
-  pub key : after .key ≡ m .key
-  pub passwords : after .passwords ≡ m .passwords
-  pub operator : after .operator ≡ m .operator
-  pub registers : after .registers ≡ m .registers
 
 -- What an answered frame leaves untouched is the meter as it was: it keeps everything, and its size.
 pub untouched-same : (m : Meter) → untouched m ≡ m

@@ -5,7 +5,7 @@ use mathlib.Core.List.{List, [], _∷_, map}
 use lib.ListN.{length}
 use lib.Dec.{eqb}
 use Rattle.laws.specs.Test.{pick}
-use Rattle.item_decimal.specs.Decimal.{decoded}
+use Rattle.item_decimal.specs.Decimal.{Decimal, decoded}
 use Rattle.item.specs.Table.{itemOf, readOnly}
 use Rattle.item.specs.TableWords.{EnergyListed, one, all-t, all-s, forward, reverse, table-words}
 use Rattle.item.specs.declared.table.Item.{Item}
@@ -14,13 +14,14 @@ use Rattle.item.specs.declared.table.Lookup.the-variants.{Listed}
 use Rattle.energy.specs.Energies.{Rows, numberAt}
 use Rattle.energy.specs.RangeLaws.{RowsInRange}
 use Rattle.energy.specs.Columns.{columnsBytes}
-use Rattle.energy.specs.ColumnsLaws.{columns-length}
+use Rattle.energy.specs.ColumnsLaws.{columns-length, columns-decimal}
 use Rattle.energy.specs.Decoded.{columnNumbers, columnsNumbers, readings-decoded}
 use Rattle.meter_holding.specs.Holding.{locationOf, heldAt, valueHeld, valueFor}
 
--- The bytes are these numbers and nothing else: four packed bytes each, in order.
+-- The bytes are these numbers and nothing else: four packed bytes each, in order, every digit decimal.
 pub record DecodeTo (numbers bytes : List ℕ) : Type 0 where
   pub size : length bytes ≡ 4 * length numbers
+  pub decimal : Decimal bytes
   pub each : decoded (length numbers) bytes ≡ numbers
 
 -- What the bytes of an identifier are, where it is one of the energies whose bytes DI3 and DI2 are those of `front`: of t s the reading at row
@@ -44,10 +45,11 @@ module _ (identifier : ℕ) (address registers : List ℕ) (f r : Rows) where
       (listed : (item : Item) → EnergyListed direction front identifier item → itemOf identifier ≡ Listed item) where
     columns : (rate rates row span n : ℕ) → itemOf identifier ≡ Listed (readOnly (Energy direction rate rates row span) n)
         → (length (valueFor identifier address registers f r) ≡ 4 * rates * span)
+        × Decimal (valueFor identifier address registers f r)
         × (decoded (rates * span) (valueFor identifier address registers f r) ≡ columnsNumbers rows rate rates row span)
     columns rate rates row span n found =
         rw (held-energies direction rate rates row span n found, of-direction)
-        (columns-length rows rate rates row span, readings-decoded rows rate rates row span ranges)
+        (columns-length rows rate rates row span, columns-decimal rows rate rates row span ranges, readings-decoded rows rate rates row span ranges)
 
     gives-readings : GivesReadings front rows identifier (valueFor identifier address registers f r)
     unfolding columnNumbers columnsNumbers
@@ -55,13 +57,13 @@ module _ (identifier : ℕ) (address registers : List ℕ) (f r : Rows) where
         record {
           one-reading =
               λ t s p q e. let c = columns t 1 s 1 4 (listed _ (one t s p q e refl)) in
-              record { size = c .0; each = c .1 };
+              record { size = c .0; decimal = c .1; each = c .2 };
           all-columns =
               λ s q e. let c = columns 0 5 s 1 20 (listed _ (all-t s q e refl)) in
-              record { size = c .0; each = c .1 };
+              record { size = c .0; decimal = c .1; each = c .2 };
           all-rows =
               λ t p e. let c = columns t 1 0 13 52 (listed _ (all-s t p e refl)) in
-              record { size = c .0; each = c .1 };
+              record { size = c .0; decimal = c .1; each = c .2 };
         }
 
   -- A meter whose readings are within their range holds, for each identifier of energies, the readings that document 01 says: 00 01 is
