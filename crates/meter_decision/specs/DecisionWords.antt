@@ -1,4 +1,4 @@
--- Document 01's table of checks by control, in its own words and figures, with the error bytes; and that a decision is what they say.
+-- Document 01's table of checks by control, in its own words and figures, with the error bytes.
 use Prim.Native.Nat.{ℕ, _+_, _≤_}
 use mathlib.Core.Path.{_≡_}
 use mathlib.Core.List.{List, [], _∷_}
