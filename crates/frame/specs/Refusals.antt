@@ -1,4 +1,4 @@
--- Document 01's table of refusals: the numbers that answers carry.
+-- Document 01's table of refusals, with those of document 02: the numbers that answers carry.
 use Prim.Native.Nat.{ℕ}
 
 -- The lent memory is too short; nothing changes.
@@ -32,6 +32,14 @@ malformed = 7
 -- A bad address for a fresh meter, or a bad direction or rate; nothing changes.
 abbrev pub badArgument : ℕ
 badArgument = 8
+
+-- A trace's record of an unknown kind, or with a field out of its range; nothing changes.
+abbrev pub badRecord : ℕ
+badRecord = 9
+
+-- A trace that ends inside a record; nothing changes.
+abbrev pub cutOff : ℕ
+cutOff = 10
 
 -- A receiver or a meter is outside its ranges; nothing changes.
 abbrev pub outOfRange : ℕ

@@ -1,4 +1,4 @@
-// Document 01's table of refusals: the numbers that answers carry.
+// Document 01's table of refusals, with those of document 02: the numbers that answers carry.
 
 // The lent memory is too short; nothing changes.
 pub const SHORT_MEMORY: u8 = 1;
@@ -16,5 +16,9 @@ pub const NOT_AN_ANSWER: u8 = 6;
 pub const MALFORMED: u8 = 7;
 // A bad address for a fresh meter, or a bad direction or rate; nothing changes.
 pub const BAD_ARGUMENT: u8 = 8;
+// A trace's record of an unknown kind, or with a field out of its range; nothing changes.
+pub const BAD_RECORD: u8 = 9;
+// A trace that ends inside a record; nothing changes.
+pub const CUT_OFF: u8 = 10;
 // A receiver or a meter is outside its ranges; nothing changes.
 pub const OUT_OF_RANGE: u8 = 16;

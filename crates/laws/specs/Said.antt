@@ -1,5 +1,5 @@
 -- What the papers say of an answer. Each enum that an operation answers with has one definition, its name ending in `Said`, that gives
--- document 01's number and values for each of its cases; promises about refusals are made by it.
+-- the papers' number and values for each of its cases; promises about refusals are made by it.
 use Prim.Native.Nat.{ℕ}
 use mathlib.Core.Path.{refl}
 use mathlib.Core.List.{List}
@@ -13,8 +13,10 @@ pub data Said : Type 0 where
   errorByte : ℕ → Said
   -- Silence of a meter that a request was sent to, by the number of its refusal.
   silence : ℕ → Said
-  -- A refusal, by document 01's number.
+  -- A refusal, by the papers' number.
   refusal : ℕ → Said
+  -- A refusal with the place that it is about.
+  refusalAt : ℕ → ℕ → Said
   -- A refusal that the papers give no number.
   unnumbered : Said
 
@@ -24,6 +26,7 @@ IsRefusal (values numbers) = ⊥
 IsRefusal (errorByte byte) = ⊥
 IsRefusal (silence n) = ⊥
 IsRefusal (refusal n) = Unit
+IsRefusal (refusalAt n place) = Unit
 IsRefusal unnumbered = Unit
 
 -- On a refusal all is as before: stated over any answer, by what it says, and over whatever is given or lent.

@@ -146,7 +146,7 @@ all-within [] s h = h
 all-within (c ∷ calls) s h = all-within calls (after c s) (keeps-within c s h)
 
 -- A fresh meter is within its ranges.
-fresh-within : (address : List ℕ) → Good address → InRanges (freshMeter address) zeroRows zeroRows
+pub fresh-within : (address : List ℕ) → Good address → InRanges (freshMeter address) zeroRows zeroRows
 unfolding freshMeter allDecimal firstBad firstBadFrom isDecimal
 fresh-within address h =
     record {

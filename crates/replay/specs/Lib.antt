@@ -1,0 +1,11 @@
+pub mod Replay
+pub mod Play
+pub mod ByHand
+pub mod StateLaws
+pub mod ByHandLaws
+pub mod StepLaws
+pub mod PlayLaws
+pub mod Replayed
+pub mod ReplayedDone
+pub mod StepWords
+pub mod Said

@@ -1,0 +1,129 @@
+-- Laws of playing a record: what the receiver delivers has at most 212 bytes, so that 8,192 bytes hold the lines of the replies; and what it delivers, put
+-- to the meter, is what the symbol comes to.
+use Prim.Native.Nat.{ℕ, _+_, _*_, _≤_}
+use native.Mathlib.Omega.{arith}
+use mathlib.Core.Path.{_≡_, refl, sym, ap, _∙_}
+use mathlib.Core.Bool.{Bool, true, false, false≢true, _&&_}
+use mathlib.Core.List.{List, [], _∷_, _++_, map}
+use lib.ListN.{length, take, replicate, length-replicate, length-take}
+use lib.Seq.{take-append-seam}
+use borrow.Author.Tests.{le-leb}
+use Rattle.laws.specs.Memory.{Outcome, outcome, over}
+use Rattle.laws.specs.MemoryLaws.{over-length}
+use Rattle.frame.specs.EndToEnd.{cut}
+use Rattle.line_verdict.specs.VerdictOnLaws.{within-most}
+use Rattle.line_terms.specs.Line.{Symbol, byte, silence}
+use Rattle.line_terms.specs.Places.{joined, framesOf}
+use Rattle.line_terms.specs.FramesFew.{bytesIn, frames-few}
+use Rattle.line.specs.Receiver.{keptBytes, withinRange, readingWith, keeping, delivered, called}
+use Rattle.line.specs.declared.Receiver.{Receiver}
+use Rattle.line.specs.declared.Received.{Received}
+use Rattle.line.specs.declared.Answer.the-variants.{Delivered}
+use Rattle.listing.specs.Lines.{linesOf}
+use Rattle.energy.specs.declared.Energies.{Energies}
+use Rattle.meter.specs.Meter.{withinRanges}
+use Rattle.meter.specs.declared.Meter.{Meter}
+use Rattle.replay_frames.specs.Putting.{meterAfter, repliesTo, allPut, framesPut}
+use Rattle.replay_frames.specs.declared.FramesPut.{FramesPut}
+use Rattle.replay_frames.specs.declared.PutAnswer.the-variants.{Put, Refused as PutRefused}
+use Rattle.replay.specs.Replay.{Play, isWithin, heardPlay, hostPlay, steppedWith, playedStep}
+use Rattle.replay.specs.Play.{quiet, playedOutcome, CanPut, deliveredPlay}
+use Rattle.replay.specs.ByHandLaws.{cut-again, found-behind, found-frames, reading-frames}
+use Rattle.replay.specs.declared.ReplayState.{ReplayState}
+use Rattle.replay.specs.declared.play.Played.{Played}
+use Rattle.replay.specs.declared.StepAnswer.the-variants as step
+
+-- Both tests of the ranges hold.
+pub both-within : (s : ReplayState) → isWithin s ≡ true → (withinRange (s .receiver) ≡ true) × (withinRanges (s .meter) (s .energies .forward) (s .energies .reverse) ≡ true)
+unfolding isWithin
+both-within s e = go (withinRange (s .receiver)) (withinRanges (s .meter) (s .energies .forward) (s .energies .reverse)) e
+  where
+    go : (a b : Bool) → (a && b) ≡ true → (a ≡ true) × (b ≡ true)
+    go true true e = (refl, refl)
+    go true false e = absurd (false≢true e)
+    go false b e = absurd (false≢true e)
+
+-- A receiver within its range, with one symbol more, delivers at most 212 bytes.
+pub delivers-most : (r : Receiver) (x : Symbol) → withinRange r ≡ true → length (joined (readingWith r x .frames)) ≤ 212
+unfolding readingWith keptBytes bytesIn
+delivers-most r x within = omega (arith, frames-few (map byte (take (r .count) (r .kept)) ++ (x ∷ [])), one-more (take (r .count) (r .kept)) x, few, within-most (r .kept) (r .count) within)
+  where
+    one-more : (l : List ℕ) (x : Symbol) → bytesIn (map byte l ++ (x ∷ [])) ≤ length l + 1
+    one-more [] (byte b) = omega arith
+    one-more [] silence = omega arith
+    one-more (b ∷ l) x = omega (arith, one-more l x)
+
+    few : length (take (r .count) (r .kept)) ≤ r .count
+    few = rw length-take (omega arith)
+
+-- Frames put to a meter within its ranges, with room.
+pub record Puts (fs : List (List ℕ)) (m : Meter) (energies : Energies) (lent : List ℕ) (put : FramesPut) (left : List ℕ) : Type 0 where
+  pub meter : put .meter ≡ meterAfter fs m (energies .forward) (energies .reverse)
+  pub answer : put .answer ≡ Put (length (linesOf (repliesTo fs m (energies .forward) (energies .reverse)))) (length (repliesTo fs m (energies .forward) (energies .reverse)))
+  pub memory : left ≡ over (linesOf (repliesTo fs m (energies .forward) (energies .reverse))) lent
+
+pub frames-puts : {m : Meter} {energies : Energies} {memory left : List ℕ} {put : FramesPut} (bytes : List ℕ) →
+    withinRanges m (energies .forward) (energies .reverse) ≡ true → 35 * length bytes ≤ length memory →
+    outcome put left ≡ framesPut bytes m energies memory → Puts (cut bytes) m energies memory put left
+unfolding framesPut allPut
+frames-puts {m} {energies} {memory} {left} {put} bytes within room e =
+    let all : outcome put left ≡ allPut (cut bytes) m (energies .forward) (energies .reverse) memory = e ∙ rw (within, le-leb (35 * length bytes) (length memory) room) in
+    record {
+      meter = ap (λ (o : Outcome FramesPut). o .answer .meter) all;
+      answer = ap (λ (o : Outcome FramesPut). o .answer .answer) all;
+      memory = ap (λ (o : Outcome FramesPut). o .memory) all;
+    }
+
+-- A call of the receiver of a state within its ranges, lent 212 bytes.
+module _ (x : Symbol) (s : ReplayState) {received : Received} {frames : List ℕ} (within : isWithin s ≡ true)
+    (e : outcome received frames ≡ called x (s .receiver) (replicate 212 0)) where
+  -- It delivers what it reads.
+  is-delivered : outcome received frames ≡ delivered (readingWith (s .receiver) x) (s .receiver) (replicate 212 0)
+  unfolding called
+  is-delivered = e ∙ rw (both-within s within .0)
+
+  says : received .answer ≡ Delivered (length (joined (readingWith (s .receiver) x .frames))) (length (readingWith (s .receiver) x .frames))
+  unfolding delivered
+  says = ap (λ (o : Outcome Received). o .answer .answer) is-delivered
+
+  keeps : received .receiver ≡ keeping (readingWith (s .receiver) x .kept) (s .receiver)
+  unfolding delivered
+  keeps = ap (λ (o : Outcome Received). o .answer .receiver) is-delivered
+
+  leaves : frames ≡ over (joined (readingWith (s .receiver) x .frames)) (replicate 212 0)
+  unfolding delivered
+  leaves = ap (λ (o : Outcome Received). o .memory) is-delivered
+
+  most : length (joined (readingWith (s .receiver) x .frames)) ≤ 212
+  most = delivers-most (s .receiver) x (both-within s within .0)
+
+  -- It can be put to the meter, with 8,192 bytes for the lines: "at most 212 bytes delivered".
+  pub heard-can-put : (memory : List ℕ) → 8192 ≤ length memory → CanPut (received .answer) (s .meter) (s .energies) frames memory
+  heard-can-put memory room =
+      let long : length frames ≡ 212 = ap length leaves ∙ over-length (joined (readingWith (s .receiver) x .frames)) (replicate 212 0) (omega (arith, most, length-replicate {A = ℕ} 212 0)) ∙ length-replicate {A = ℕ} 212 0 in
+      rw says (record { within = both-within s within .1; size = omega (arith, most, long); room = omega (arith, most) })
+
+  -- Put to the meter, it is what the symbol comes to.
+  pub heard-delivered : deliveredPlay (received .answer) (received .receiver) (s .meter) (s .energies) frames ≡ heardPlay x s
+  unfolding heardPlay
+  heard-delivered =
+      let front : take (length (joined (readingWith (s .receiver) x .frames))) frames ≡ joined (readingWith (s .receiver) x .frames) =
+      rw leaves (take-append-seam (joined (readingWith (s .receiver) x .frames)) _) in
+      let cuts : cut (take (length (joined (readingWith (s .receiver) x .frames))) frames) ≡ framesOf (readingWith (s .receiver) x .frames) =
+      ap cut (front ∙ sym (found-behind (readingWith (s .receiver) x .frames))) ∙ cut-again _ (found-frames _ (reading-frames s x)) in
+      rw (says, keeps, cuts)
+
+-- What a record played comes to, as a step.
+pub played-as-step : {p : Played} {left : List ℕ} (q : Play) (next : ℕ) (m : List ℕ) → outcome p left ≡ playedOutcome q m →
+    outcome (steppedWith (p .state) (step.Played (p .text) (p .lines) next)) left ≡ playedStep q next m
+unfolding playedOutcome playedStep
+played-as-step q next m e = ap (λ (o : Outcome Played). outcome (steppedWith (o .answer .state) (step.Played (o .answer .text) (o .answer .lines) next)) (o .memory)) e
+
+-- The lines of a record that nothing is replied to.
+pub quiet-outcome : (s : ReplayState) (m : List ℕ) → outcome (quiet s) m ≡ playedOutcome (hostPlay s) m
+unfolding playedOutcome linesOf
+quiet-outcome s m = refl
+
+-- Frames that are put are not refused.
+pub not-refused : {text lines n : ℕ} → Put text lines ≡ PutRefused n → ⊥
+not-refused e = let z : _≡_ {A = ℕ} 0 1 = cc in omega arith
