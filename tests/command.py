@@ -1,4 +1,5 @@
-"""How the files of this folder are called, and how stored files are written and compared. Only imported."""
+"""How the files of this folder are called, how scripts are carried out, and how stored files are written and compared.
+Only imported."""
 import os
 import sys
 
@@ -36,3 +37,21 @@ def stored(name):
             return file.read()
     except FileNotFoundError:
         return None
+
+
+class Script:
+    """What a program that carries out a script holds between its lines. Each call has a method, `call_` and its word, that
+    gives the lines which the program writes of it, or None where it is no call with what stands behind the word."""
+
+    def line(self, line):
+        """The lines written of a line of the script."""
+        if line.startswith("#") or not line:
+            return [line]
+        word, _, rest = line.partition(" ")
+        call = getattr(self, "call_" + word, None)
+        written = call(rest) if call else None
+        return ["not a call: " + line] if written is None else written
+
+    def output(self, lines):
+        """The lines written of a whole script."""
+        return [written for line in lines for written in self.line(line)]

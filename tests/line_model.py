@@ -7,6 +7,7 @@
 It shares nothing with the Rattle sources. `write` makes the line, from a fixed seed, and works out the frames taken in
 it; `selftest` is quiet when all agree.
 """
+import functools
 import itertools
 import random
 import sys
@@ -24,6 +25,11 @@ MOST_KEPT = MOST_FRAME - 1  # bytes of an unfinished one
 
 
 # ---- document 01, "Reading of the line": taken -----------------------------------------------------------------------
+def starts(line, first):
+    """The places from a first one on at which a frame can begin: those with its first byte, 68."""
+    return [place for place in range(first, len(line)) if line[place] == 0x68]
+
+
 def stands(line, place):
     """The length of the frame that stands at a place, or None.
 
@@ -46,7 +52,7 @@ def taken(line):
     """The frames taken, each as its place and length: one standing at a place is taken exactly if no taken frame that
     began earlier covers that place. One that began more than 211 places earlier has ended before it."""
     chosen = []
-    for place in range(len(line)):
+    for place in starts(line, 0):
         length = stands(line, place)
         if length is not None:
             near = itertools.takewhile(lambda found: place - found[0] < MOST_FRAME, reversed(chosen))
@@ -80,7 +86,7 @@ def completed(symbols):
 
 def open_places(line):
     """The places from which the symbols up to the end are a proper beginning of a frame."""
-    return [place for place in range(max(0, len(line) - MOST_KEPT), len(line)) if completed(line[place:]) is not None]
+    return [place for place in starts(line, max(0, len(line) - MOST_KEPT)) if completed(line[place:]) is not None]
 
 
 def certain(line):
@@ -94,6 +100,13 @@ def certain(line):
     same; or the choice has differed earlier, by a frame that ends behind the list too, and covers these and more. So a
     frame that any longer list loses is lost in one of those tried.
     """
+    return list(certain_after(tuple(line)))
+
+
+@functools.cache
+def certain_after(symbols):
+    """The frames certain after a list of symbols; a receiver's line is asked for more than once."""
+    line = list(symbols)
     tried = [line] + [line[:place] + completed(line[place:]) for place in open_places(line)]
     choices = [set(taken(longer)) for longer in tried]
     return [found for found in taken(line) if all(found in choice for choice in choices)]

@@ -213,22 +213,13 @@ def numbers(text, base=10):
     return [int(x, base) for x in text.split()]
 
 
-class Program:
-    """What the program holds between calls, and a method for each call that gives the lines it writes."""
+class Program(command.Script):
+    """What run_script holds between its lines."""
 
     def __init__(self):
         """Before the first call."""
         self.meter, self.memory = Meter([0] * 6), 212
         self.request, self.lent = None, list(reader_model.LENT)
-
-    def line(self, line):
-        """The lines written of a line of the script."""
-        if line.startswith("#") or not line:
-            return [line]
-        word, _, rest = line.partition(" ")
-        call = getattr(self, "call_" + word, None)
-        written = call(rest) if call else None
-        return ["not a call: " + line] if written is None else written
 
     # A fresh meter, and the host's calls.
     def call_meter(self, rest):
@@ -323,8 +314,7 @@ class Program:
 
 def output(lines):
     """What the program must write of a script's lines."""
-    program = Program()
-    return [written for line in lines for written in program.line(line)]
+    return Program().output(lines)
 
 
 def script():

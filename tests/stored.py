@@ -20,8 +20,9 @@ import line_vectors
 import list_model
 import model
 import receiver_model
+import replay_model
 
-GENERATORS = (model, line_model, line_vectors, receiver_model, list_model)
+GENERATORS = (model, line_model, line_vectors, receiver_model, list_model, replay_model)
 
 
 def files():
@@ -35,7 +36,7 @@ def files():
 
 def found():
     """The names of the stored files that there are."""
-    paths = [path for kind in ("stdin", "stdout") for path in glob.glob(command.at_root("crates/*/" + kind))]
+    paths = [path for kind in ("args", "stdin", "stdout") for path in glob.glob(command.at_root("crates/*/" + kind))]
     return {os.path.relpath(path, command.ROOT) for path in paths}
 
 

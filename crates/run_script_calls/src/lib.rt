@@ -50,7 +50,7 @@ fn plain(verb: Verb) -> Call {
 }
 
 // The place of a word among words with a blank between them, or their number where it is none of them.
-fn place_among(words: &[u8], word: &[u8]) -> usize {
+pub fn place_among(words: &[u8], word: &[u8]) -> usize {
     let mut place = 0;
     let mut at = 0;
     while at < words.len() {

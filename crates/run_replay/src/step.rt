@@ -1,0 +1,142 @@
+// Steps of a replay, and what is written of them: the lines of the replies as they come, and the last answer.
+ghost use Prim.Native.Nat.{_≤_};
+use crate::state::State;
+use replay::StepAnswer;
+use replay::step_at;
+use run_text::memory::FILL;
+use run_text::memory::is_filled;
+use run_text::write::write;
+use run_text::write::write_number;
+use run_text::write::write_numbered;
+use run_text::write::write_two;
+
+// How many bytes of an output buffer there are.
+const MEMORY: usize = 9000;
+
+// How many of them are lent: as many as asked, at most all.
+fn lent(room: usize) -> usize
+    ensures { λ r. ⌜ r ≤ 9000 ⌝ }
+{
+    if room < MEMORY {
+        return room;
+    }
+    MEMORY
+}
+
+// Writes the text at the front of the output buffer, and says so where bytes beyond it are changed.
+fn write_text(out: &[u8; MEMORY], length: usize) {
+    let all: &[u8] = out;
+    if MEMORY < length {
+        write(b"memory changed\n");
+        return;
+    }
+    write(&all[0..length]);
+    if !is_filled(&all[length..]) {
+        write(b"memory changed\n");
+    }
+}
+
+// Writes the answer, unless a record is played and more steps are to come; and says whether they are.
+fn goes_on(answer: StepAnswer, left: u32) -> bool {
+    match answer {
+        StepAnswer::Done => {
+            write(b"done\n");
+            false
+        }
+        StepAnswer::Refused(refusal) => {
+            write_numbered(b"refused ", refusal as usize);
+            false
+        }
+        StepAnswer::BadRecord { refusal, place } => {
+            write(b"bad ");
+            write_two(refusal as usize, b" ", place, b"\n");
+            false
+        }
+        StepAnswer::Played { text, lines, next } => {
+            if 0 < left {
+                return true;
+            }
+            write(b"played ");
+            write_two(text, b" ", lines, b" ");
+            write_number(next, b"\n");
+            false
+        }
+    }
+}
+
+// The place after an answer: that of the next record where one is played.
+fn place_after(answer: StepAnswer, place: usize) -> usize {
+    match answer {
+        StepAnswer::Done => place,
+        StepAnswer::Refused(_) => place,
+        StepAnswer::BadRecord {
+            refusal: _,
+            place: _,
+        } => place,
+        StepAnswer::Played {
+            text: _,
+            lines: _,
+            next,
+        } => next,
+    }
+}
+
+// How many bytes of text an answer says.
+fn text_of(answer: StepAnswer) -> usize {
+    match answer {
+        StepAnswer::Done => 0,
+        StepAnswer::Refused(_) => 0,
+        StepAnswer::BadRecord {
+            refusal: _,
+            place: _,
+        } => 0,
+        StepAnswer::Played {
+            text,
+            lines: _,
+            next: _,
+        } => text,
+    }
+}
+
+// What a step leaves: the state after it, and whether more steps are to come.
+struct Made {
+    state: State,
+    more: bool,
+}
+
+// One step in an output buffer that is filled before it, with so many left to make.
+fn step(state: State, left: u32, trace: &[u8]) -> Made {
+    let mut out = [FILL; MEMORY];
+    let size = lent(state.room);
+    let replay = state.replay;
+    let place = state.place;
+    let stepped = step_at(trace, place, replay, &mut out[0..size]);
+    let answer = stepped.answer;
+    write_text(&out, text_of(answer));
+    let after = stepped.state;
+    let mut next = state.with_replay(after);
+    next.place = place_after(answer, place);
+    Made {
+        state: next,
+        more: goes_on(answer, left),
+    }
+}
+
+// So many steps over the trace at the front of its buffer, or fewer where one plays nothing.
+pub(crate) fn steps(state: State, count: u32, trace: &[u8]) -> State {
+    let length = state.length;
+    if trace.len() < length {
+        return state;
+    }
+    let mut present = state;
+    let mut left = count;
+    while 0 < left {
+        left -= 1;
+        let made = step(present, left, &trace[0..length]);
+        present = made.state;
+        if !made.more {
+            return present;
+        }
+    }
+    present
+}
