@@ -21,7 +21,8 @@ use Rattle.line.specs.declared.Receiver.{Receiver}
 use Rattle.line_block.specs.Block.{blockRead}
 use Rattle.line_block.specs.Said.{blockSaid, block-refuses}
 use Rattle.recording.specs.Step.{stepRead}
-use Rattle.recording.specs.Said.{stepSaid, step-refuses}
+use Rattle.recording.specs.Said as recorded
+use Rattle.recording.specs.Said.{step-refuses}
 use Rattle.listing.specs.Text.{listing}
 use Rattle.listing.specs.Step.{TooShort, stepListed}
 use Rattle.listing.specs.Said.{listedSaid, stepListedSaid, CannotList, listing-refuses, list-step-refuses}
@@ -34,6 +35,7 @@ use Rattle.item.specs.Table.{itemOf}
 use Rattle.item.specs.declared.table.Item.{Item}
 use Rattle.item.specs.declared.table.Lookup.the-variants.{Listed}
 use Rattle.energy.specs.Energies.{Rows}
+use Rattle.energy.specs.declared.Energies.{Energies}
 use Rattle.meter_counting.specs.Counting as counting
 use Rattle.meter_counting.specs.Counting.{energiesOf}
 use Rattle.meter_counting.specs.Said as counted
@@ -55,6 +57,15 @@ use Rattle.reader.specs.JudgeWords.{judgeWords}
 use Rattle.reader.specs.Said.{builtSaid, CannotBuild, build-refuses, judge-refuses}
 use Rattle.reader.specs.declared.Request.{Request}
 use Rattle.reader_judgement.specs.Said.{judgementSaid}
+use Rattle.trace.specs.Trace.{frontOf}
+use Rattle.trace.specs.Said.{frontSaid, NoGoodRecord, front-refuses}
+use Rattle.replay_frames.specs.Putting.{framesPut}
+use Rattle.replay_frames.specs.Said.{putSaid, CannotPut, put-refuses}
+use Rattle.replay.specs.Replay.{started, stepped}
+use Rattle.replay.specs.Said as replayed
+use Rattle.replay.specs.Said.{stepSaid, CannotStep, start-refused}
+use Rattle.replay.specs.StepWords as replay
+use Rattle.replay.specs.declared.ReplayState.{ReplayState}
 use Rattle.exchange.specs.Exchange.{Memories}
 use Rattle.exchange.specs.ExchangeTerms.{Typed}
 use Rattle.exchange.specs.Said.{ExchangeAnswers, exchange-answers}
@@ -70,7 +81,7 @@ pub record RefusalsChangeNothing : Type 0 where
       → let o = blockRead block ended m in Refuses (blockSaid (o .answer)) (length m < length block) m (o .memory)
   pub read-step : (kept read : ℕ) (ended : Bool) (buffer m : List ℕ)
       → let o = stepRead kept read ended buffer m in
-      Refuses {S = List ℕ × List ℕ} (stepSaid (o .answer)) ((length buffer < kept + read) ⊎ (length m < kept + read)) (buffer, m) (o .buffer, o .memory)
+      Refuses {S = List ℕ × List ℕ} (recorded.stepSaid (o .answer)) ((length buffer < kept + read) ⊎ (length m < kept + read)) (buffer, m) (o .buffer, o .memory)
   pub list-step : (kept read : ℕ) (buffer frames text : List ℕ)
       → let o = stepListed kept read buffer frames text in
       Refuses {S = List ℕ × List ℕ × List ℕ} (stepListedSaid (o .answer)) (TooShort (kept + read) buffer frames text) (buffer, frames, text) (o .buffer, o .frames, o .text)
@@ -117,6 +128,19 @@ pub record RefusalsChangeNothing : Type 0 where
       → let o = built request m in Refuses (builtSaid (o .answer)) (CannotBuild request m) m (o .memory)
   pub judge : (request : Request) (bytes m : List ℕ) → RequestSized request
       → let o = judged request bytes m in Refuses (judgementSaid (o .answer)) ((n : ℕ) × FirstFails (judgeWords request bytes m) n) m (o .memory)
+  -- A replay: what stands at the front of the rest of a trace, frames put to a meter, the start, and a step. What comes back from a start that is refused
+  -- is refused by every step with 16.
+  pub trace-front : (rest : List ℕ)
+      → Refuses (frontSaid (frontOf rest)) (NoGoodRecord rest) rest rest
+  pub put-frames : (bytes : List ℕ) (m : Meter) (energies : Energies) (memory : List ℕ)
+      → let o = framesPut bytes m energies memory in
+      Refuses {S = Meter × List ℕ} (putSaid (o .answer .answer)) (CannotPut bytes m energies memory) (m, memory) (o .answer .meter, o .memory)
+  pub start-replay : (address : List ℕ)
+      → let c = started address in
+      (IsRefusal (hostSaid (c .answer)) ↔ (Good address → ⊥)) × (IsRefusal (hostSaid (c .answer)) → replay.InRanges (c .state) → ⊥)
+  pub step-replay : (trace : List ℕ) (at : ℕ) (s : ReplayState) (m : List ℕ)
+      → let o = stepped trace at s m in
+      Refuses {S = ReplayState × List ℕ} (stepSaid (o .answer .answer)) (CannotStep trace at s m) (s, m) (o .answer .state, o .memory)
   -- An exchange: a refusal, a silence, and what the reader makes of a reply.
   pub exchange : (request : Request) (m : Meter) (forward reverse : Rows) (lent : Memories) → Typed request → MeterSized m
       → ExchangeAnswers request m forward reverse lent
@@ -145,5 +169,9 @@ demand-1 =
       with-value = registers-as-before;
       build = build-refuses;
       judge = judge-refuses;
+      trace-front = front-refuses;
+      put-frames = put-refuses;
+      start-replay = start-refused;
+      step-replay = replayed.step-refuses;
       exchange = exchange-answers;
     }

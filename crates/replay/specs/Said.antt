@@ -12,6 +12,7 @@ use Rattle.item_address.specs.Address.{Good}
 use Rattle.meter.specs.Said.{fresh-refused}
 use Rattle.meter_counting.specs.Said.{hostSaid}
 use Rattle.trace.specs.Trace.{frontOf}
+use Rattle.trace.specs.Said.{NoGoodRecord, front-refuses}
 use Rattle.trace.specs.declared.Front.the-variants as front
 use Rattle.replay.specs.Replay.{started, stepped, steppedWith}
 use Rattle.replay.specs.StepLaws.{Stepping, outside, ends, declines, bad, plays, stepping, bad-no-end}
@@ -37,7 +38,7 @@ start-refused address = let c = fresh-refused address in (c .0, λ r ranges. c .
 
 -- The state is out of its ranges; or the place is before the end, and the memory has under 8,192 bytes or no good record stands there.
 abbrev pub CannotStep : List ℕ → ℕ → ReplayState → List ℕ → Type 0
-CannotStep trace at s m = (InRanges s → ⊥) ⊎ ((at < length trace) × ((length m < 8192) ⊎ ((n : ℕ) × (frontOf (drop at trace) ≡ front.Refused n))))
+CannotStep trace at s m = (InRanges s → ⊥) ⊎ ((at < length trace) × ((length m < 8192) ⊎ NoGoodRecord (drop at trace)))
 
 pub step-refuses : (trace : List ℕ) (at : ℕ) (s : ReplayState) (m : List ℕ)
     → let o = stepped trace at s m in
@@ -63,10 +64,10 @@ step-refuses trace at s m = go (stepping refl)
         none (inl out) = out (within-iff s .0 w)
         none (inr (early, _)) = omega (arith, ended-iff trace at .0 e)
     go (declines w e short a l) = is a l (refuses (inr (before e, inl short)) tt)
-    go (bad {n = n} w e room a l) = is a l (refuses (inr (before (λ end. bad-no-end (sym e ∙ end)), inr (n, e))) tt)
+    go (bad w e room a l) = is a l (refuses (inr (before (λ end. bad-no-end (sym e ∙ end)), inr (front-refuses (drop at trace) .exactly .0 (rw e tt)))) tt)
     go (plays w e room a l) = is a l (answers (λ r. r) none)
       where
         none : CannotStep trace at s m → ⊥
         none (inl out) = out (within-iff s .0 w)
         none (inr (early, inl short)) = omega arith
-        none (inr (early, inr (n, there))) = let z : _≡_ {A = ℕ} 0 1 = cc (e, there) in omega arith
+        none (inr (early, inr no-good)) = rw e at (front-refuses (drop at trace) .exactly .1 no-good)
