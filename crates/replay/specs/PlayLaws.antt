@@ -21,12 +21,15 @@ use Rattle.line.specs.declared.Received.{Received}
 use Rattle.line.specs.declared.Answer.the-variants.{Delivered}
 use Rattle.listing.specs.Lines.{linesOf}
 use Rattle.energy.specs.declared.Energies.{Energies}
-use Rattle.meter.specs.Meter.{withinRanges}
+use Rattle.meter.specs.Meter.{MeterSized, withinRanges}
 use Rattle.meter.specs.declared.Meter.{Meter}
 use Rattle.replay_frames.specs.Putting.{meterAfter, repliesTo, allPut, framesPut}
+use Rattle.replay_frames.specs.PuttingLaws.{all-text}
 use Rattle.replay_frames.specs.declared.FramesPut.{FramesPut}
 use Rattle.replay_frames.specs.declared.PutAnswer.the-variants.{Put, Refused as PutRefused}
-use Rattle.replay.specs.Replay.{Play, isWithin, heardPlay, hostPlay, steppedWith, playedStep}
+use Rattle.trace.specs.declared.TraceRecord.{TraceRecord}
+use Rattle.trace.specs.declared.TraceRecord.the-variants.{Byte, Silence, Pulse, Key, Settle}
+use Rattle.replay.specs.Replay.{Play, isWithin, heardPlay, hostPlay, played, steppedWith, playedStep}
 use Rattle.replay.specs.Play.{quiet, playedOutcome, CanPut, deliveredPlay}
 use Rattle.replay.specs.ByHandLaws.{cut-again, found-behind, found-frames, reading-frames}
 use Rattle.replay.specs.declared.ReplayState.{ReplayState}
@@ -55,6 +58,25 @@ delivers-most r x within = omega (arith, frames-few (map byte (take (r .count) (
 
     few : length (take (r .count) (r .kept)) ≤ r .count
     few = rw length-take (omega arith)
+
+-- A byte or a silence: the lines of the replies to what the receiver delivers.
+heard-fits : (s : ReplayState) (x : Symbol) → isWithin s ≡ true → MeterSized (s .meter) → length (linesOf (heardPlay x s .replies)) ≤ 8192
+unfolding heardPlay
+heard-fits s x within sized =
+    let fs = readingWith (s .receiver) x .frames in
+    let cuts : cut (joined fs) ≡ framesOf fs = ap cut (sym (found-behind fs)) ∙ cut-again (framesOf fs) (found-frames fs (reading-frames s x)) in
+    let text : length (linesOf (repliesTo (framesOf fs) (s .meter) (s .energies .forward) (s .energies .reverse))) ≤ 35 * length (joined fs) =
+    rw cuts at (all-text (joined fs) (s .meter) (s .energies .forward) (s .energies .reverse) sized) in
+    omega (arith, text, delivers-most (s .receiver) x (both-within s within .0))
+
+-- 8,192 bytes always hold the lines of a record's replies.
+pub text-fits : (r : TraceRecord) (s : ReplayState) → isWithin s ≡ true → MeterSized (s .meter) → length (linesOf (played r s .replies)) ≤ 8192
+unfolding played linesOf
+text-fits (Byte b) s within sized = heard-fits s (byte b) within sized
+text-fits Silence s within sized = heard-fits s silence within sized
+text-fits (Pulse direction rate amount) s within sized = omega arith
+text-fits (Key on) s within sized = omega arith
+text-fits Settle s within sized = omega arith
 
 -- Frames put to a meter within its ranges, with room.
 pub record Puts (fs : List (List ℕ)) (m : Meter) (energies : Energies) (lent : List ℕ) (put : FramesPut) (left : List ℕ) : Type 0 where
