@@ -1,5 +1,5 @@
 -- The records of a trace played by hand: calls of a receiver and of a meter, one after the other, in the order that the records name them. Of each
--- call stands here what its `ensures` says, and nothing of the replay.
+-- call stands here what its `ensures` says, and nothing of a step of the replay.
 use Prim.Native.Nat.{ℕ, _≤_}
 use mathlib.Core.Path.{_≡_}
 use mathlib.Core.List.{List, [], _∷_, _++_, map}
@@ -10,16 +10,16 @@ use Rattle.laws.specs.Memory.{outcome}
 use Rattle.frame.specs.Frame.{Frame}
 use Rattle.line_terms.specs.Line as line
 use Rattle.line_terms.specs.Line.{Symbol}
-use Rattle.line.specs.Receiver.{called}
+use Rattle.line.specs.Receiver.{fresh, called}
 use Rattle.line.specs.Demand3.{ReceiverCall, deliveredBy}
 use Rattle.energy.specs.Energies.{Rows}
 use Rattle.meter.specs.Answer.{answered}
-use Rattle.meter.specs.Host.{keySet, pulsedBy, settledBy}
+use Rattle.meter.specs.Host.{created, keySet, pulsedBy, settledBy}
 use Rattle.meter.specs.declared.Answered.{Answered}
 use Rattle.meter.specs.declared.Counted.{Counted}
 use Rattle.meter.specs.declared.KeySet.{KeySet}
 use Rattle.meter.specs.declared.Meter.{Meter}
-use Rattle.replay_frames.specs.Putting.{replyIn}
+use Rattle.replay_frames.specs.Putting.{behindEachOther, replyIn}
 use Rattle.trace.specs.declared.TraceRecord.{TraceRecord}
 use Rattle.trace.specs.declared.TraceRecord.the-variants.{Byte, Silence, Pulse, Key, Settle}
 use Rattle.replay.specs.Replay.{stateOf}
@@ -51,11 +51,6 @@ framesIn calls = map (λ (c : AnswerCall). c .bytes) calls
 abbrev pub repliesIn : List AnswerCall → List (List ℕ)
 repliesIn [] = []
 repliesIn (c ∷ cs) = replyIn (c .returned .answer) (c .left) ++ repliesIn cs
-
--- Frames one behind the other.
-unfoldable pub behindEachOther : List (List ℕ) → List ℕ
-behindEachOther [] = []
-behindEachOther (f ∷ fs) = f ++ behindEachOther fs
 
 -- A symbol heard by hand: one call of the receiver, lent memory enough; then one call of `answer` for each frame that it handed on, in order.
 pub record Hears (x : Symbol) (s : ReplayState) (c : ReceiverCall) (calls : List AnswerCall) : Type 0 where
@@ -95,6 +90,10 @@ pub data ByHand : ReplayState → List TraceRecord → List HandTurn → Type 0 
   settle : {s : ReplayState} {rs : List TraceRecord} {c : Counted} {turns : List HandTurn} →
       c ≡ settledBy (s .meter) (s .energies .forward) (s .energies .reverse) → ByHand (turned s (counted c)) rs turns →
       ByHand s (Settle ∷ rs) (counted c ∷ turns)
+
+-- Before the first record: a fresh receiver, and what `Meter::fresh` hands back of an address.
+abbrev pub handStart : List ℕ → ReplayState
+handStart address = stateOf fresh (created address .meter) (created address .energies)
 
 -- The state after all the calls, the frames put to the meter, and the replies that it gave, in order.
 abbrev pub stateLeft : ReplayState → List HandTurn → ReplayState

@@ -18,6 +18,7 @@ use Rattle.line_terms.specs.FoundFrames.{AllFrames, scan-frames}
 use Rattle.line.specs.Receiver.{readingWith, keeping, delivered, called}
 use Rattle.line.specs.Demand3.{ReceiverCall, deliveredBy}
 use Rattle.line.specs.declared.Answer.the-variants.{Delivered}
+use Rattle.line.specs.declared.Receiver.{Receiver}
 use Rattle.line.specs.declared.Received.{Received}
 use Rattle.energy.specs.Energies.{Rows}
 use Rattle.meter.specs.Meter.{MeterSized}
@@ -27,13 +28,13 @@ use Rattle.meter.specs.declared.Answered.{Answered}
 use Rattle.meter.specs.declared.Counted.{Counted}
 use Rattle.meter.specs.declared.KeySet.{KeySet}
 use Rattle.meter.specs.declared.Meter.{Meter}
-use Rattle.replay_frames.specs.Putting.{replyIn, put, replyTo, meterAfter, repliesTo}
+use Rattle.replay_frames.specs.Putting.{behindEachOther, replyIn, put, replyTo, meterAfter, repliesTo}
 use Rattle.replay_frames.specs.PuttingLaws.{put-sized}
 use Rattle.replay_frames.specs.PutLent.{put-lent}
 use Rattle.trace.specs.declared.TraceRecord.{TraceRecord}
 use Rattle.trace.specs.declared.TraceRecord.the-variants.{Byte, Silence, Pulse, Key, Settle}
 use Rattle.replay.specs.Replay.{Play, stateOf, countedIn, heardPlay, hostCall, played}
-use Rattle.replay.specs.ByHand.{AnswerCall, AnswerCalls, meterLeft, framesIn, repliesIn, behindEachOther, Hears, HandTurn, heard, counted, keyed, turned, ByHand, done, byte, silence, pulse, key, settle, stateLeft, framesOfTurn, repliesOfTurn, framesPutIn, repliesGiven, spelledBy}
+use Rattle.replay.specs.ByHand.{AnswerCall, AnswerCalls, meterLeft, framesIn, repliesIn, Hears, HandTurn, heard, counted, keyed, turned, ByHand, done, byte, silence, pulse, key, settle, stateLeft, framesOfTurn, repliesOfTurn, framesPutIn, repliesGiven, spelledBy}
 use Rattle.replay.specs.StateLaws.{Fit, heard-call, played-fit, playedAll}
 use Rattle.replay.specs.declared.ReplayState.{ReplayState}
 
@@ -55,9 +56,9 @@ found-frames [] w = tt
 found-frames (f ∷ fs) w = (w .0, found-frames fs (w .1))
 
 -- What a receiver with one symbol more reads are frames.
-pub reading-frames : (s : ReplayState) (x : Symbol) → AllFrames (readingWith (s .receiver) x .frames)
+pub reading-frames : (r : Receiver) (x : Symbol) → AllFrames (readingWith r x .frames)
 unfolding readingWith
-reading-frames s x = scan-frames 0 0 _
+reading-frames r x = scan-frames 0 0 _
 
 -- Calls of `answer` come to what their frames come to, put one after the other.
 pub record SameAnswers (m : Meter) (forward reverse : Rows) (calls : List AnswerCall) : Type 0 where
@@ -99,7 +100,7 @@ hears-same {s = s} {x = x} {c = c} {calls = calls} f h =
     let handed : deliveredBy (c .returned .answer) (c .left) ≡ joined (reading .frames) = rw (answer, left) (take-append-seam (joined (reading .frames)) _) in
     let same : framesIn calls ≡ framesOf (reading .frames) =
     sym (cut-again (framesIn calls) (h .frames)) ∙ ap cut (h .handed-on ∙ handed ∙ sym (found-behind (reading .frames)))
-    ∙ cut-again (framesOf (reading .frames)) (found-frames (reading .frames) (reading-frames s x)) in
+    ∙ cut-again (framesOf (reading .frames)) (found-frames (reading .frames) (reading-frames (s .receiver) x)) in
     let put = answers-same (s .meter) (s .energies .forward) (s .energies .reverse) calls (f .sized) (h .answers) in
     record {
       state = rw (receiver, put .meter, same);
@@ -198,7 +199,7 @@ made-hears {s = s} f x =
       symbol = refl;
       room = room;
       call = refl;
-      frames = rw fs (found-frames (reading .frames) (reading-frames s x));
+      frames = rw fs (found-frames (reading .frames) (reading-frames (s .receiver) x));
       handed-on = rw (fs, found-behind, e) (sym (take-append-seam (joined (reading .frames)) _));
       answers = made-calls _ _ _ _;
     }

@@ -5,7 +5,8 @@ pub mod StateLaws
 pub mod ByHandLaws
 pub mod StepLaws
 pub mod PlayLaws
+pub mod StepWords
+pub mod StartWords
 pub mod Replayed
 pub mod ReplayedDone
-pub mod StepWords
 pub mod Said

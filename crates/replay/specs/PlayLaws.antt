@@ -5,7 +5,7 @@ use native.Mathlib.Omega.{arith}
 use mathlib.Core.Path.{_≡_, refl, sym, ap, _∙_}
 use mathlib.Core.Bool.{Bool, true, false, false≢true, _&&_}
 use mathlib.Core.List.{List, [], _∷_, _++_, map}
-use lib.ListN.{length, take, replicate, length-replicate, length-take}
+use lib.ListN.{length, take, length-take}
 use lib.Seq.{take-append-seam}
 use borrow.Author.Tests.{le-leb}
 use Rattle.laws.specs.Memory.{Outcome, outcome, over}
@@ -29,7 +29,7 @@ use Rattle.replay_frames.specs.declared.FramesPut.{FramesPut}
 use Rattle.replay_frames.specs.declared.PutAnswer.the-variants.{Put, Refused as PutRefused}
 use Rattle.trace.specs.declared.TraceRecord.{TraceRecord}
 use Rattle.trace.specs.declared.TraceRecord.the-variants.{Byte, Silence, Pulse, Key, Settle}
-use Rattle.replay.specs.Replay.{Play, isWithin, heardPlay, hostPlay, played, steppedWith, playedStep}
+use Rattle.replay.specs.Replay.{Play, stateOf, isWithin, heardPlay, hostPlay, played, steppedWith, playedStep}
 use Rattle.replay.specs.Play.{quiet, playedOutcome, CanPut, deliveredPlay}
 use Rattle.replay.specs.ByHandLaws.{cut-again, found-behind, found-frames, reading-frames}
 use Rattle.replay.specs.declared.ReplayState.{ReplayState}
@@ -64,7 +64,7 @@ heard-fits : (s : ReplayState) (x : Symbol) → isWithin s ≡ true → MeterSiz
 unfolding heardPlay
 heard-fits s x within sized =
     let fs = readingWith (s .receiver) x .frames in
-    let cuts : cut (joined fs) ≡ framesOf fs = ap cut (sym (found-behind fs)) ∙ cut-again (framesOf fs) (found-frames fs (reading-frames s x)) in
+    let cuts : cut (joined fs) ≡ framesOf fs = ap cut (sym (found-behind fs)) ∙ cut-again (framesOf fs) (found-frames fs (reading-frames (s .receiver) x)) in
     let text : length (linesOf (repliesTo (framesOf fs) (s .meter) (s .energies .forward) (s .energies .reverse))) ≤ 35 * length (joined fs) =
     rw cuts at (all-text (joined fs) (s .meter) (s .energies .forward) (s .energies .reverse) sized) in
     omega (arith, text, delivers-most (s .receiver) x (both-within s within .0))
@@ -96,44 +96,47 @@ frames-puts {m} {energies} {memory} {left} {put} bytes within room e =
       memory = ap (λ (o : Outcome FramesPut). o .memory) all;
     }
 
--- A call of the receiver of a state within its ranges, lent 212 bytes.
-module _ (x : Symbol) (s : ReplayState) {received : Received} {frames : List ℕ} (within : isWithin s ≡ true)
-    (e : outcome received frames ≡ called x (s .receiver) (replicate 212 0)) where
+-- A call of a receiver within its range, lent memory enough.
+module _ (x : Symbol) (r : Receiver) (lent : List ℕ) {received : Received} {frames : List ℕ} (within : withinRange r ≡ true) (room : 212 ≤ length lent)
+    (e : outcome received frames ≡ called x r lent) where
   -- It delivers what it reads.
-  is-delivered : outcome received frames ≡ delivered (readingWith (s .receiver) x) (s .receiver) (replicate 212 0)
+  is-delivered : outcome received frames ≡ delivered (readingWith r x) r lent
   unfolding called
-  is-delivered = e ∙ rw (both-within s within .0)
+  is-delivered = e ∙ rw (within, le-leb 212 (length lent) room)
 
-  says : received .answer ≡ Delivered (length (joined (readingWith (s .receiver) x .frames))) (length (readingWith (s .receiver) x .frames))
+  pub call-says : received .answer ≡ Delivered (length (joined (readingWith r x .frames))) (length (readingWith r x .frames))
   unfolding delivered
-  says = ap (λ (o : Outcome Received). o .answer .answer) is-delivered
+  call-says = ap (λ (o : Outcome Received). o .answer .answer) is-delivered
 
-  keeps : received .receiver ≡ keeping (readingWith (s .receiver) x .kept) (s .receiver)
+  pub call-keeps : received .receiver ≡ keeping (readingWith r x .kept) r
   unfolding delivered
-  keeps = ap (λ (o : Outcome Received). o .answer .receiver) is-delivered
+  call-keeps = ap (λ (o : Outcome Received). o .answer .receiver) is-delivered
 
-  leaves : frames ≡ over (joined (readingWith (s .receiver) x .frames)) (replicate 212 0)
+  pub call-leaves : frames ≡ over (joined (readingWith r x .frames)) lent
   unfolding delivered
-  leaves = ap (λ (o : Outcome Received). o .memory) is-delivered
+  call-leaves = ap (λ (o : Outcome Received). o .memory) is-delivered
 
-  most : length (joined (readingWith (s .receiver) x .frames)) ≤ 212
-  most = delivers-most (s .receiver) x (both-within s within .0)
+  -- The memory keeps its length.
+  pub call-size : length frames ≡ length lent
+  call-size = ap length call-leaves ∙ over-length (joined (readingWith r x .frames)) lent (omega (arith, delivers-most r x within))
 
-  -- It can be put to the meter, with 8,192 bytes for the lines: "at most 212 bytes delivered".
-  pub heard-can-put : (memory : List ℕ) → 8192 ≤ length memory → CanPut (received .answer) (s .meter) (s .energies) frames memory
-  heard-can-put memory room =
-      let long : length frames ≡ 212 = ap length leaves ∙ over-length (joined (readingWith (s .receiver) x .frames)) (replicate 212 0) (omega (arith, most, length-replicate {A = ℕ} 212 0)) ∙ length-replicate {A = ℕ} 212 0 in
-      rw says (record { within = both-within s within .1; size = omega (arith, most, long); room = omega (arith, most) })
+  -- What is delivered is cut into the frames that are read.
+  pub call-cuts : cut (take (length (joined (readingWith r x .frames))) frames) ≡ framesOf (readingWith r x .frames)
+  call-cuts =
+      let front : take (length (joined (readingWith r x .frames))) frames ≡ joined (readingWith r x .frames) =
+      rw call-leaves (take-append-seam (joined (readingWith r x .frames)) _) in
+      ap cut (front ∙ sym (found-behind (readingWith r x .frames))) ∙ cut-again _ (found-frames _ (reading-frames r x))
+
+  -- It can be put to a meter within its ranges, with 8,192 bytes for the lines: "at most 212 bytes delivered".
+  pub heard-can-put : (m : Meter) (energies : Energies) (memory : List ℕ) → withinRanges m (energies .forward) (energies .reverse) ≡ true → 8192 ≤ length memory →
+      CanPut (received .answer) m energies frames memory
+  heard-can-put m energies memory ranges roomy =
+      rw call-says (record { within = ranges; size = omega (arith, delivers-most r x within, call-size); room = omega (arith, delivers-most r x within) })
 
   -- Put to the meter, it is what the symbol comes to.
-  pub heard-delivered : deliveredPlay (received .answer) (received .receiver) (s .meter) (s .energies) frames ≡ heardPlay x s
+  pub heard-delivered : (m : Meter) (energies : Energies) → deliveredPlay (received .answer) (received .receiver) m energies frames ≡ heardPlay x (stateOf r m energies)
   unfolding heardPlay
-  heard-delivered =
-      let front : take (length (joined (readingWith (s .receiver) x .frames))) frames ≡ joined (readingWith (s .receiver) x .frames) =
-      rw leaves (take-append-seam (joined (readingWith (s .receiver) x .frames)) _) in
-      let cuts : cut (take (length (joined (readingWith (s .receiver) x .frames))) frames) ≡ framesOf (readingWith (s .receiver) x .frames) =
-      ap cut (front ∙ sym (found-behind (readingWith (s .receiver) x .frames))) ∙ cut-again _ (found-frames _ (reading-frames s x)) in
-      rw (says, keeps, cuts)
+  heard-delivered m energies = rw (call-says, call-keeps, call-cuts)
 
 -- What a record played comes to, as a step.
 pub played-as-step : {p : Played} {left : List ℕ} (q : Play) (next : ℕ) (m : List ℕ) → outcome p left ≡ playedOutcome q m →

@@ -93,6 +93,13 @@ played records.Settle s = hostPlay (hostCall records.Settle s)
 abbrev pub steppedWith : ReplayState → StepAnswer → Stepped
 steppedWith s answer = record { state = s; answer = answer }
 
+-- An answer that says that no record was played.
+abbrev pub Unplayed : StepAnswer → Type 0
+Unplayed Done = Unit
+Unplayed (Refused n) = Unit
+Unplayed (BadRecord n place) = Unit
+Unplayed (Played text lines next) = ⊥
+
 -- A record played: how many bytes of text and how many lines, the next place, and the lines of the replies over the front of the memory.
 unfoldable pub playedStep : Play → ℕ → List ℕ → Outcome Stepped
 playedStep p next m =

@@ -4,12 +4,11 @@ use Prim.Native.Nat.{ℕ, _+_, _≤_}
 use native.Mathlib.Omega.{arith}
 use mathlib.Core.Path.{_≡_, refl, sym, ap, subst, _∙_}
 use mathlib.Core.List.{List, [], _∷_, _++_, append-nil, append-assoc}
-use mathlib.Core.Bool.{true≢false}
-use lib.ListN.{length, take, drop, length-drop}
+use lib.ListN.{length, take, drop, length-append, length-drop}
 use lib.Seq.{take-append-seam, take-add}
 use Rattle.laws.specs.All.{AllOf}
 use Rattle.laws.specs.AllLaws.{all-drop, all-append}
-use Rattle.laws.specs.Memory.{outcome, over, LeftAlone, IsByte, Bytes}
+use Rattle.laws.specs.Memory.{outcome, over, IsByte, Bytes}
 use Rattle.line_terms.specs.Line.{Symbol, Certain}
 use Rattle.line_terms.specs.Places.{framesOf, Exactly}
 use Rattle.line_terms.specs.Scan.{scan}
@@ -22,11 +21,12 @@ use Rattle.trace.specs.Trace.{frontOf}
 use Rattle.trace.specs.declared.Front.the-variants.{Good as GoodRecord}
 use Rattle.trace.specs.declared.TraceRecord.{TraceRecord}
 use Rattle.trace.specs.TraceLaws.{good-bytes, good-within}
-use Rattle.replay.specs.Replay.{started, stepped, played, steppedWith}
-use Rattle.replay.specs.ByHand.{HandTurn, ByHand, stateLeft, framesPutIn, repliesGiven, spelled}
+use Rattle.replay.specs.Replay.{started, stepped, played, steppedWith, Unplayed}
+use Rattle.replay.specs.ByHand.{HandTurn, ByHand, handStart, stateLeft, framesPutIn, repliesGiven, spelled}
 use Rattle.replay.specs.StateLaws.{Fit, fit-within, start-fit, playedAll, all-fit, all-frames, all-then, all-one}
 use Rattle.replay.specs.ByHandLaws.{SomeHand, some-hand, hand-same}
 use Rattle.replay.specs.StepLaws.{Stepping, outside, ends, declines, bad, plays, stepping}
+use Rattle.replay.specs.StepWords.{within-iff, StepWords, step-words}
 use Rattle.replay.specs.declared.ReplayState.{ReplayState}
 use Rattle.replay.specs.declared.Stepped.{Stepped}
 use Rattle.replay.specs.declared.StepAnswer.{StepAnswer}
@@ -71,15 +71,9 @@ abbrev pub textAfter : List StepCall → List ℕ
 textAfter [] = []
 textAfter (c ∷ cs) = textBy (c .returned .answer) (c .left) ++ textAfter cs
 
--- An answer that says that no record was played.
-abbrev pub Unplayed : StepAnswer → Type 0
-Unplayed Done = Unit
-Unplayed (Refused n) = Unit
-Unplayed (BadRecord n place) = Unit
-Unplayed (Played text lines next) = ⊥
-
--- What holds of these records with this text and this state: they are those of the calls made by hand, whatever memory is lent to them, of which
--- there are some; and the frames put to the meter are exactly those certain after the line that the records spell, in rising place.
+-- What holds of these records with this text and this state. There are calls by hand that play them, and whatever memory of at least 212 bytes each is
+-- lent, text and state are those of the calls; and the frames put to the meter are exactly those certain after the line that the records spell, in
+-- rising place.
 pub record PlayedByHand (s : ReplayState) (records : List TraceRecord) (text : List ℕ) (after : ReplayState) : Type 1 where
   pub some : SomeHand s records
   pub text-same : (turns : List HandTurn) → ByHand s records turns → text ≡ linesOf (repliesGiven turns)
@@ -87,11 +81,22 @@ pub record PlayedByHand (s : ReplayState) (records : List TraceRecord) (text : L
   pub certain : Exactly (Certain (spelled records))
   pub frames-put : (turns : List HandTurn) → ByHand s records turns → framesPutIn turns ≡ framesOf (certain .frames)
 
--- What holds of a step by itself: it is never refused with 16, and one that played no record changed nothing.
-pub record StepIsRight (s : ReplayState) (c : StepCall) : Type 0 where
+-- How many lines an answer says; and all of them.
+abbrev pub linesBy : StepAnswer → ℕ
+linesBy Done = 0
+linesBy (Refused n) = 0
+linesBy (BadRecord n place) = 0
+linesBy (Played text lines next) = lines
+
+abbrev pub linesAfter : List StepCall → ℕ
+linesAfter [] = 0
+linesAfter (c ∷ cs) = linesBy (c .returned .answer) + linesAfter cs
+
+-- What holds of a step at a place of a trace: it is never refused with 16, and says and leaves what document 02's words are for it; one that played no
+-- record changed nothing.
+pub record StepIsRight (trace : List ℕ) (at : ℕ) (s : ReplayState) (c : StepCall) : Type 0 where
   pub within : c .returned .answer ≡ Refused 16 → ⊥
-  pub state : Unplayed (c .returned .answer) → LeftAlone s (c .returned .state)
-  pub memory : Unplayed (c .returned .answer) → LeftAlone (c .lent) (c .left)
+  pub words : StepWords trace at s (c .lent) (c .returned) (c .left)
 
 -- What holds of a list of steps from the start of an address.
 pub record Replays (address trace : List ℕ) (calls : List StepCall) : Type 1 where
@@ -100,11 +105,12 @@ pub record Replays (address trace : List ℕ) (calls : List StepCall) : Type 1 w
   pub right : AllOf FieldsRight records
   pub reached : placeAfter 0 calls ≤ length trace
   pub up-to : take (placeAfter 0 calls) trace ≡ written records
-  -- all text joined, and the receiver, the meter and the readings
-  pub by-hand : PlayedByHand (started address .state) records (textAfter calls) (stateAfter (started address .state) calls)
+  -- all text joined, and the receiver, the meter and the readings; and the number of lines
+  pub by-hand : PlayedByHand (handStart address) records (textAfter calls) (stateAfter (handStart address) calls)
+  pub lines : (turns : List HandTurn) → ByHand (handStart address) records turns → linesAfter calls ≡ length (repliesGiven turns)
   -- each step
   pub each : (earlier : List StepCall) (c : StepCall) (later : List StepCall) → calls ≡ earlier ++ (c ∷ later) →
-      StepIsRight (stateAfter (started address .state) earlier) c
+      StepIsRight trace (placeAfter 0 earlier) (stateAfter (handStart address) earlier) c
 
 -- Records that come to this text and this state come to it by hand.
 pub played-by-hand : {s : ReplayState} {text : List ℕ} {after : ReplayState} (records : List TraceRecord) → Fit [] s →
@@ -125,23 +131,24 @@ unfolding written
 written-append [] more = refl
 written-append (r ∷ rs) more = rw (written-append rs more) (sym (append-assoc (recordBytes r) (written rs) (written more)))
 
--- How far steps have come: from a place on records were played, up to another, and came to this text and this state.
-pub record Came (trace : List ℕ) (at : ℕ) (s : ReplayState) (to : ℕ) (text : List ℕ) (after : ReplayState) : Type 0 where
+-- How far steps have come: from a place on records were played, up to another, and came to this text of so many lines and this state.
+pub record Came (trace : List ℕ) (at : ℕ) (s : ReplayState) (to : ℕ) (text : List ℕ) (lines : ℕ) (after : ReplayState) : Type 0 where
   pub records : List TraceRecord
   pub right : AllOf FieldsRight records
   pub reached : to ≤ length trace
   pub up-to : take to trace ≡ take at trace ++ written records
   pub text-same : text ≡ linesOf (playedAll records s .replies)
   pub state-same : after ≡ playedAll records s .state
+  pub lines-same : lines ≡ length (playedAll records s .replies)
 
-came-nowhere : (trace : List ℕ) (at : ℕ) (s : ReplayState) → at ≤ length trace → Came trace at s at [] s
+came-nowhere : (trace : List ℕ) (at : ℕ) (s : ReplayState) → at ≤ length trace → Came trace at s at [] 0 s
 unfolding written linesOf playedAll
 came-nowhere trace at s within =
-    record { records = []; right = tt; reached = within; up-to = sym (append-nil (take at trace)); text-same = refl; state-same = refl }
+    record { records = []; right = tt; reached = within; up-to = sym (append-nil (take at trace)); text-same = refl; state-same = refl; lines-same = refl }
 
-came-then : {trace : List ℕ} {at to last : ℕ} {s next after : ReplayState} {text more : List ℕ} → Came trace at s to text next → Came trace to next last more after →
-    Came trace at s last (text ++ more) after
-came-then {trace} {at} {to} {last} {s} {next} {after} {text} {more} a b =
+came-then : {trace : List ℕ} {at to last : ℕ} {s next after : ReplayState} {text more : List ℕ} {lines others : ℕ} → Came trace at s to text lines next →
+    Came trace to next last more others after → Came trace at s last (text ++ more) (lines + others) after
+came-then {trace} {at} {to} {last} {s} {next} {after} {text} {more} {lines} {others} a b =
     let then = all-then (a .records) (b .records) s in
     record {
       records = a .records ++ b .records;
@@ -152,11 +159,14 @@ came-then {trace} {at} {to} {last} {s} {next} {after} {text} {more} a b =
       text-same = (λ i. a .text-same i ++ b .text-same i) ∙ (λ i. linesOf (playedAll (a .records) s .replies) ++ linesOf (playedAll (b .records) (a .state-same i) .replies))
           ∙ sym (lines-append (playedAll (a .records) s .replies) (playedAll (b .records) (playedAll (a .records) s .state) .replies)) ∙ ap linesOf (sym (then .replies));
       state-same = b .state-same ∙ ap (λ (x : ReplayState). playedAll (b .records) x .state) (a .state-same) ∙ sym (then .state);
+      lines-same = (λ i. a .lines-same i + b .lines-same i)
+          ∙ (λ i. length (playedAll (a .records) s .replies) + length (playedAll (b .records) (a .state-same i) .replies))
+          ∙ sym (length-append (playedAll (a .records) s .replies) _) ∙ ap length (sym (then .replies));
     }
 
 -- A good record at a place, played.
 came-one : {r : TraceRecord} {n : ℕ} (trace : List ℕ) (at : ℕ) (s : ReplayState) → Bytes trace → at ≤ length trace → frontOf (drop at trace) ≡ GoodRecord r n →
-    Came trace at s (at + n) (linesOf (played r s .replies)) (played r s .state)
+    Came trace at s (at + n) (linesOf (played r s .replies)) (length (played r s .replies)) (played r s .state)
 unfolding written
 came-one {r} {n} trace at s bytes within there =
     let good = good-bytes (drop at trace) (all-drop IsByte at trace bytes) there in
@@ -169,13 +179,14 @@ came-one {r} {n} trace at s bytes within there =
       up-to = take-add at n trace ∙ ap (λ (l : List ℕ). take at trace ++ l) (good .bytes ∙ sym (append-nil (recordBytes r)));
       text-same = ap linesOf (sym (one .replies));
       state-same = sym (one .state);
+      lines-same = ap length (sym (one .replies));
     }
 
 -- A step from a place within the trace.
 module _ {at : ℕ} {line : List Symbol} {s : ReplayState} (trace : List ℕ) (c : StepCall) (bytes : Bytes trace) (within : at ≤ length trace) (f : Fit line s)
     (h : outcome (c .returned) (c .left) ≡ stepped trace at s (c .lent)) where
   abbrev CameBy : Type 0
-  CameBy = Came trace at s (placeBy (c .returned .answer) at) (textBy (c .returned .answer) (c .left)) (c .returned .state)
+  CameBy = Came trace at s (placeBy (c .returned .answer) at) (textBy (c .returned .answer) (c .left)) (linesBy (c .returned .answer)) (c .returned .state)
 
   step-came : CameBy
   step-came = go (stepping h)
@@ -193,32 +204,20 @@ module _ {at : ℕ} {line : List Symbol} {s : ReplayState} (trace : List ℕ) (c
       go (bad w e room a m) = still (BadRecord _ at) tt a
       go (plays {r = r} w e room a m) = rw (a, m, take-append-seam (linesOf (played r s .replies)) _) (came-one trace at s bytes within e)
 
-  -- It keeps the state fit, and is right by itself.
-  step-right : StepIsRight s c
-  step-right = go (stepping h)
-    where
-      still : (answer : StepAnswer) → (answer ≡ Refused 16 → ⊥) → c .returned ≡ steppedWith s answer → c .left ≡ c .lent → StepIsRight s c
-      still answer other a m = record { within = λ e. other (sym (ap (λ (r : Stepped). r .answer) a) ∙ e); state = λ u. ap (λ (r : Stepped). r .state) a; memory = λ u. m }
-
-      go : Stepping trace at s (c .lent) (c .returned) (c .left) → StepIsRight s c
-      go (outside out a m) = absurd (true≢false (sym (fit-within f) ∙ out))
-      go (ends w e a m) = still Done (λ x. let z : _≡_ {A = ℕ} 0 1 = cc in omega arith) a m
-      go (declines w e short a m) = still (Refused 1) (λ x. let z : _≡_ {A = ℕ} 1 16 = cc in omega arith) a m
-      go (bad {n = n} w e room a m) = still (BadRecord n at) (λ x. let z : _≡_ {A = ℕ} 0 1 = cc in omega arith) a m
-      go (plays {r = r} w e room a m) =
-          record {
-            within = λ x. let z : _≡_ {A = ℕ} 0 1 = cc in omega arith;
-            state = λ u. absurd (subst (λ (t : Stepped). Unplayed (t .answer)) a u);
-            memory = λ u. absurd (subst (λ (t : Stepped). Unplayed (t .answer)) a u);
-          }
+  -- It is right by itself.
+  step-right : StepIsRight trace at s c
+  step-right =
+      let words = step-words trace at s (c .lent) (c .returned) (c .left) h in
+      record { within = λ r. words .sixteen .0 r (within-iff s .0 (fit-within f)); words = words }
 
 -- A state that records have led to is fit.
-came-fit : {trace : List ℕ} {at to : ℕ} {line : List Symbol} {s after : ReplayState} {text : List ℕ} → Fit line s → (came : Came trace at s to text after) →
+came-fit : {trace : List ℕ} {at to lines : ℕ} {line : List Symbol} {s after : ReplayState} {text : List ℕ} → Fit line s →
+    (came : Came trace at s to text lines after) →
     Fit (line ++ spelled (came .records)) after
 came-fit f came = subst (Fit _) (sym (came .state-same)) (all-fit (came .records) f)
 
 steps-came : {at : ℕ} {line : List Symbol} {s : ReplayState} (trace : List ℕ) (calls : List StepCall) → Bytes trace → at ≤ length trace → Fit line s →
-    Steps trace at s calls → Came trace at s (placeAfter at calls) (textAfter calls) (stateAfter s calls)
+    Steps trace at s calls → Came trace at s (placeAfter at calls) (textAfter calls) (linesAfter calls) (stateAfter s calls)
 steps-came trace [] bytes within f h = came-nowhere trace _ _ within
 steps-came trace (c ∷ cs) bytes within f h =
     let first = step-came trace c bytes within f (h .0) in
@@ -244,6 +243,7 @@ replayed-by-hand address trace calls six good bytes h =
       reached = came .reached;
       up-to = came .up-to;
       by-hand = played-by-hand (came .records) f (came .text-same) (came .state-same);
+      lines = λ turns hand. came .lines-same ∙ ap length (sym (hand-same f hand .replies));
       each = λ earlier c later e.
           let parts = steps-split trace 0 (started address .state) earlier (c ∷ later) (subst (Steps trace 0 (started address .state)) e h) in
           let before = steps-came trace earlier bytes (omega arith) f (parts .0) in

@@ -16,10 +16,10 @@ use Rattle.trace.specs.Records.{FieldsRight, recordBytes, written}
 use Rattle.trace.specs.declared.TraceRecord.{TraceRecord}
 use Rattle.trace.specs.declared.Front.the-variants as front
 use Rattle.trace.specs.TraceLaws.{front-written}
-use Rattle.replay.specs.Replay.{started, stepped, played}
+use Rattle.replay.specs.Replay.{started, stepped, played, Unplayed}
 use Rattle.replay.specs.StateLaws.{Fit, fit-within, start-fit, played-fit}
 use Rattle.replay.specs.StepLaws.{Stepping, outside, ends, declines, bad, plays, stepping, good-no-end, bad-no-end}
-use Rattle.replay.specs.Replayed.{StepCall, placeBy, Steps, placeAfter, stateAfter, Unplayed, steps-split}
+use Rattle.replay.specs.Replayed.{StepCall, placeBy, Steps, placeAfter, stateAfter, steps-split}
 use Rattle.replay.specs.declared.ReplayState.{ReplayState}
 use Rattle.replay.specs.declared.Stepped.{Stepped}
 use Rattle.replay.specs.declared.StepAnswer.the-variants.{Done}
@@ -134,6 +134,7 @@ steps-left trace rs [] right enough h l = l
 steps-left trace rs (c ∷ cs) right enough h l =
     steps-left trace (behind rs) cs (behind-right rs right) (enough .1) (h .1) (step-left trace rs c right (enough .0) (h .0) l)
 
+-- Of every trace of good records, and every list of steps from the start.
 pub steps-done : (address : List ℕ) (records : List TraceRecord) (calls : List StepCall) → length address ≡ 6 → Good address → AllOf FieldsRight records →
     AllOf IsEnough calls → Steps (written records) (started address .at) (started address .state) calls → EndsWithTheRecords records calls
 unfolding started written frontOf

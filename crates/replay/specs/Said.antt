@@ -40,6 +40,7 @@ start-refused address = let c = fresh-refused address in (c .0, λ r ranges. c .
 abbrev pub CannotStep : List ℕ → ℕ → ReplayState → List ℕ → Type 0
 CannotStep trace at s m = (InRanges s → ⊥) ⊎ ((at < length trace) × ((length m < 8192) ⊎ NoGoodRecord (drop at trace)))
 
+-- Exactly there a step is refused, and then nothing changed.
 pub step-refuses : (trace : List ℕ) (at : ℕ) (s : ReplayState) (m : List ℕ)
     → let o = stepped trace at s m in
     Refuses {S = ReplayState × List ℕ} (stepSaid (o .answer .answer)) (CannotStep trace at s m) (s, m) (o .answer .state, o .memory)

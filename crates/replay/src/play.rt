@@ -1,6 +1,7 @@
 // One record played: a byte or a silence is heard, and what it delivers is put to the meter; a pulse, the key and a settlement are the host's
 // calls of the meter.
 use crate::ReplayState;
+use crate::host::host_call;
 use energy::Energies;
 use frame::MOST_FRAME;
 use line::Answer;
@@ -35,19 +36,6 @@ fn quiet(state: ReplayState) -> Played
         state,
         text: 0,
         lines: 0,
-    }
-}
-
-// The state with the meter and the readings that a host's call handed back.
-fn counted_in(receiver: Receiver, counted: Counted) -> ReplayState
-    ensures { λ r. ⌜ r ≡ countedIn receiver counted ⌝ }
-{
-    let meter = counted.meter;
-    let energies = counted.energies;
-    ReplayState {
-        receiver,
-        meter,
-        energies,
     }
 }
 
@@ -111,39 +99,6 @@ fn play_silence(state: ReplayState, out: &mut [u8]) -> Played
     put_delivered(received, meter, energies, &frames, out)
 }
 
-// A call of the host: a pulse, the key or a settlement. What is heard is not for it, and leaves the state as it was.
-fn play_host(state: ReplayState, found: TraceRecord) -> ReplayState
-    ensures { λ r. ⌜ r ≡ hostCall found state ⌝ }
-{
-    let receiver = state.receiver;
-    let meter = state.meter;
-    let energies = state.energies;
-    let forward = energies.forward_rows();
-    let reverse = energies.reverse_rows();
-    match found {
-        TraceRecord::Byte(_) => state,
-        TraceRecord::Silence => state,
-        TraceRecord::Pulse {
-            direction,
-            rate,
-            amount,
-        } => counted_in(
-            receiver,
-            meter.pulse(forward, reverse, amount, direction, rate),
-        ),
-        TraceRecord::Key(on) => {
-            let key_set = meter.set_key(forward, reverse, on);
-            let meter = key_set.meter;
-            ReplayState {
-                receiver,
-                meter,
-                energies,
-            }
-        }
-        TraceRecord::Settle => counted_in(receiver, meter.settle(forward, reverse)),
-    }
-}
-
 // A record played.
 pub(crate) fn play(state: ReplayState, found: TraceRecord, out: &mut [u8]) -> Played
     requires { ⌜ (isWithin state ≡ true) × (8192 ≤ length (now out)) ⌝ }
@@ -156,8 +111,8 @@ pub(crate) fn play(state: ReplayState, found: TraceRecord, out: &mut [u8]) -> Pl
             direction: _,
             rate: _,
             amount: _,
-        } => quiet(play_host(state, found)),
-        TraceRecord::Key(_) => quiet(play_host(state, found)),
-        TraceRecord::Settle => quiet(play_host(state, found)),
+        } => quiet(host_call(state, found)),
+        TraceRecord::Key(_) => quiet(host_call(state, found)),
+        TraceRecord::Settle => quiet(host_call(state, found)),
     }
 }

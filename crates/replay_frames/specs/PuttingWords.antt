@@ -20,7 +20,7 @@ use Rattle.meter.specs.Ranges.{InRanges, within-ranges}
 use Rattle.meter.specs.declared.FrameAnswer.{FrameAnswer}
 use Rattle.meter.specs.declared.FrameAnswer.the-variants as frames
 use Rattle.meter.specs.declared.Meter.{Meter}
-use Rattle.replay_frames.specs.Putting.{replyIn, put, replyTo, meterAfter, repliesTo, refusedPut, allPut, framesPut}
+use Rattle.replay_frames.specs.Putting.{behindEachOther, replyIn, put, replyTo, meterAfter, repliesTo, refusedPut, allPut, framesPut}
 use Rattle.replay_frames.specs.PuttingLaws.{meter-append, replies-append}
 use Rattle.replay_frames.specs.declared.PutAnswer.the-variants.{Put}
 
@@ -81,12 +81,19 @@ unfolding cutFrom
 cut-frames none = tt
 cut-frames (next {frame} {rest} w more) = rw (cut-next frame rest w) (w, cut-frames more)
 
+-- One behind the other they are the bytes again.
+cut-whole : {bytes : List ℕ} → EndToEnd bytes → behindEachOther (cut bytes) ≡ bytes
+unfolding cutFrom behindEachOther
+cut-whole none = refl
+cut-whole (next {frame} {rest} w more) = rw (cut-next frame rest w, cut-whole more)
+
 -- All the frames put: the text is the line of each reply, in order, over the front of the memory, and the answer says how many bytes and lines.
 pub record AllListed (bytes : List ℕ) (m : Meter) (energies : Energies) (memory : List ℕ) : Type 0 where
   pub replies : List (List ℕ)
   pub after : Meter
   pub order : InOrder (energies .forward) (energies .reverse) (cut bytes) m replies after
   pub frames : EndToEnd bytes → AllOf Frame (cut bytes)
+  pub whole : EndToEnd bytes → behindEachOther (cut bytes) ≡ bytes
   pub result : framesPut bytes m energies memory
       ≡ outcome (record { meter = after; answer = Put (length (linesOf replies)) (length replies) }) (over (linesOf replies) memory)
 
@@ -111,6 +118,7 @@ frames-put-words bytes m energies memory =
             after = meterAfter (cut bytes) m (energies .forward) (energies .reverse);
             order = in-order (energies .forward) (energies .reverse) (cut bytes) m;
             frames = cut-frames;
+            whole = cut-whole;
             result = rw (test .1 ranges, le-leb _ _ room);
           };
     }

@@ -12,7 +12,7 @@ use Rattle.trace.specs.declared.TraceRecord.{TraceRecord}
 use Rattle.trace.specs.declared.TraceRecord.the-variants.{Byte, Silence, Pulse, Key, Settle}
 use Rattle.trace.specs.declared.Front.the-variants.{Good}
 
--- Every field is within its range: a direction 0 or 1, a rate 1 to 4, an amount of 32 bits.
+-- Every field is within its range: a received byte, a direction 0 or 1, a rate 1 to 4, an amount of 32 bits.
 abbrev pub FieldsRight : TraceRecord → Type 0
 FieldsRight (Byte b) = IsByte b
 FieldsRight Silence = Unit

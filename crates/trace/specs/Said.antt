@@ -6,16 +6,17 @@ use mathlib.Core.List.{List, [], _∷_}
 use native.Mathlib.Omega.{arith}
 use Rattle.laws.specs.Said.{Said, values, refusal, Refuses, refuses, answers}
 use Rattle.trace.specs.Trace.{frontOf}
+use Rattle.trace.specs.Records.{recordBytes}
 use Rattle.trace.specs.FrontCases.{UnknownKind, CutOff, BadField, FrontCase, no-kind, cut-off, bad-field, case-front, front-case}
 use Rattle.trace.specs.declared.TraceRecord.{TraceRecord}
 use Rattle.trace.specs.declared.Front.{Front}
 use Rattle.trace.specs.declared.Front.the-variants.{Ended, Refused, Good}
 
--- The end is no refusal; a good record has a length.
+-- The end is no refusal; a good record has a length, and its bytes.
 abbrev pub frontSaid : Front → Said
 frontSaid Ended = values []
 frontSaid (Refused n) = refusal n
-frontSaid (Good found length) = values (length ∷ [])
+frontSaid (Good found length) = values (length ∷ recordBytes found)
 
 -- It begins with an unknown kind, or the trace ends inside its first record, or that has a field out of its range.
 abbrev pub NoGoodRecord : List ℕ → Type 0

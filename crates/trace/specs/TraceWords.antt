@@ -21,7 +21,7 @@ unfolding recordBytes
 amount-low-first direction rate a0 a1 a2 a3 bytes = rw (amount-bytes a0 a1 a2 a3 bytes)
 
 -- The front of the rest of a trace: the end where nothing is left; 9 for an unknown kind, and for a field out of its range in a whole record;
--- 10 for a trace ending inside the record, and no other number; a record and its length where it stands there, its fields within their ranges.
+-- 10 for a trace ending inside the record; no other refusal; a record and its length where it stands there, its fields within their ranges.
 pub record FrontWords (rest : List ℕ) : Type 0 where
   pub ended : (frontOf rest ≡ Ended) ↔ (rest ≡ [])
   pub bad : (frontOf rest ≡ Refused 9) ↔ (UnknownKind rest ⊎ BadField rest)

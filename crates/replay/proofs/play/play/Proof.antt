@@ -21,19 +21,19 @@ returns-3 : tie.Need-returns-3
 unfolding played
 returns-3 c =
     let h = c .before in
-    rw (c .quiet .ensures, h .play-host .ensures, h .before .enum-told2 .given .1) (quiet-outcome _ _)
+    rw (c .quiet .ensures, h .host-call .ensures, h .before .enum-told2 .given .1) (quiet-outcome _ _)
 
 returns-4 : tie.Need-returns-4
 unfolding played
 returns-4 c =
     let h = c .before in
-    rw (c .quiet2 .ensures, h .play-host2 .ensures, h .before .enum-told3 .given .1) (quiet-outcome _ _)
+    rw (c .quiet2 .ensures, h .host-call2 .ensures, h .before .enum-told3 .given .1) (quiet-outcome _ _)
 
 returns-5 : tie.Need-returns-5
 unfolding played
 returns-5 c =
     let h = c .before in
-    rw (c .quiet3 .ensures, h .play-host3 .ensures, h .before .enum-told4 .given .1) (quiet-outcome _ _)
+    rw (c .quiet3 .ensures, h .host-call3 .ensures, h .before .enum-told4 .given .1) (quiet-outcome _ _)
 
 pub play-spec : {M : Type 1} → statement M
 play-spec =

@@ -1,8 +1,8 @@
 -- By the record: what is heard leaves the state as it was, and the others are the definition's calls.
 use borrow.Author.Needs.{needs}
 use Rattle.replay.specs.Replay.{hostCall}
-use Rattle.replay.proofs.play.play_host.Statement.{statement}
-use Rattle.replay.proofs.play.play_host.Tie as tie
+use Rattle.replay.proofs.host.host_call.Statement.{statement}
+use Rattle.replay.proofs.host.host_call.Tie as tie
 
 returns : tie.Need-returns
 unfolding hostCall
@@ -34,8 +34,8 @@ returns-5 c =
     let rows = s .before .before .before in
     rw (s .before .enum-told3 .given .1, c .counted-in2 .ensures, s .settle .ensures, rows .reverse-rows .ensures, rows .before .forward-rows .ensures)
 
-pub play-host-spec : {M : Type 1} → statement M
-play-host-spec =
+pub host-call-spec : {M : Type 1} → statement M
+host-call-spec =
     tie.close
     (tie.spec
     (λ c κs. search needs)
