@@ -24,7 +24,7 @@ use Rattle.line_block.specs.declared.BlockAnswer.the-variants.{Delivered}
 use Rattle.line.specs.Rescan.{Rescans}
 
 -- A part between two places, as the front of what follows the first or as what follows the first in a front.
-part-of-front : (a n : ℕ) (l : List ℕ) → take (n - a) (drop a l) ≡ drop a (take n l)
+pub part-of-front : (a n : ℕ) (l : List ℕ) → take (n - a) (drop a l) ≡ drop a (take n l)
 part-of-front zero n l = rw sub-zero
 part-of-front (suc a) zero l = rw zero-sub
 part-of-front (suc a) (suc n) [] = rw take-nil

@@ -66,6 +66,9 @@ use Rattle.replay.specs.Said as replayed
 use Rattle.replay.specs.Said.{stepSaid, CannotStep, start-refused}
 use Rattle.replay.specs.StepWords as replay
 use Rattle.replay.specs.declared.ReplayState.{ReplayState}
+use Rattle.replay_block.specs.Block.{blockReplayed}
+use Rattle.replay_block.specs.BlockWords.{blockPlayedSaid, CannotPlay, play-refuses}
+use Rattle.replay_block.specs.declared.Session.{Session}
 use Rattle.exchange.specs.Exchange.{Memories}
 use Rattle.exchange.specs.ExchangeTerms.{Typed}
 use Rattle.exchange.specs.Said.{ExchangeAnswers, exchange-answers}
@@ -141,6 +144,10 @@ pub record RefusalsChangeNothing : Type 0 where
   pub step-replay : (trace : List ℕ) (at : ℕ) (s : ReplayState) (m : List ℕ)
       → let o = stepped trace at s m in
       Refuses {S = ReplayState × List ℕ} (stepSaid (o .answer .answer)) (CannotStep trace at s m) (s, m) (o .answer .state, o .memory)
+  -- A block of a trace: the records before a refused one are played, and that one does nothing (`block-right`).
+  pub play-block : (kept read : ℕ) (s : Session) (buffer text : List ℕ)
+      → let o = blockReplayed kept read s buffer text in
+      Refuses {S = Session × List ℕ × List ℕ} (blockPlayedSaid (o .answer .answer)) (CannotPlay kept read s buffer text) (s, buffer, text) (o .answer .session, o .buffer, o .text)
   -- An exchange: a refusal, a silence, and what the reader makes of a reply.
   pub exchange : (request : Request) (m : Meter) (forward reverse : Rows) (lent : Memories) → Typed request → MeterSized m
       → ExchangeAnswers request m forward reverse lent
@@ -173,5 +180,6 @@ demand-1 =
       put-frames = put-refuses;
       start-replay = start-refused;
       step-replay = replayed.step-refuses;
+      play-block = play-refuses;
       exchange = exchange-answers;
     }

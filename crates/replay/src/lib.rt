@@ -79,8 +79,8 @@ pub fn start(address: [u8; 6]) -> Started
     }
 }
 
-// Whether the receiver, and the meter with its readings, are within their ranges.
-fn is_within(state: ReplayState) -> bool
+// Whether the receiver, and the meter with its readings, are within their ranges: every step refuses with 16 a state that is not.
+pub fn is_within(state: ReplayState) -> bool
     ensures { λ r. ⌜ r ≡ isWithin state ⌝ }
 {
     let receiver = state.receiver;

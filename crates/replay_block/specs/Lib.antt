@@ -1,0 +1,10 @@
+pub mod Block
+pub mod Hear
+pub mod HearLaws
+pub mod ReadingLaws
+pub mod Run
+pub mod RunLaws
+pub mod BlockLaws
+pub mod Blocks
+pub mod BlockWords
+pub mod CutAnywhere
