@@ -1,10 +1,12 @@
 #!/usr/bin/env python3
-"""A second replay of a recorded line, written from documents 01 and 02 alone, and what the program run_replay must write.
+"""A second replay of a recorded line, written from documents 01 and 02 alone, and what the programs run_replay and
+replay_trace must write.
 
-    python3 tests/replay_model.py write       writes the stored files of run_replay
+    python3 tests/replay_model.py write       writes the stored files of both programs
     python3 tests/replay_model.py selftest    puts the papers' frames to the model, and checks the day that is replayed
 
-The calls of run_replay stand in replay_scripts.py; the last of them are from a working day, in replay_day.py. The receiver is that of receiver_model.py, the meter that of model.py. `selftest` is quiet when all
+The trace that replay_trace is given is a working day, in replay_day.py; the calls of run_replay stand in
+replay_scripts.py. The receiver is that of receiver_model.py, the meter that of model.py. `selftest` is quiet when all
 agree.
 """
 import contextlib
@@ -201,16 +203,22 @@ def script(made):
 
 
 def files():
-    """The stored files of run_replay."""
-    calls = script(day())
+    """The stored files of run_replay and replay_trace."""
+    made = day()
+    calls = script(made)
+    lines, _answer, _holds = replayed(replay_day.ADDRESS, made.trace)
+    address = "".join("%02X" % b for b in reversed(replay_day.ADDRESS))
     return {
         "crates/run_replay/stdin": command.lines(calls),
         "crates/run_replay/stdout": command.lines(Program().output(calls)),
+        "crates/replay_trace/args": command.lines([address]),
+        "crates/replay_trace/stdin": bytes(made.trace),
+        "crates/replay_trace/stdout": command.lines(lines),
     }
 
 
 def write():
-    """Writes the stored files of run_replay."""
+    """Writes the stored files of run_replay and replay_trace."""
     command.write(files())
 
 

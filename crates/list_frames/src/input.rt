@@ -68,30 +68,12 @@ fn list_read(
     }
 }
 
-// Reads into a buffer, and returns what the last read answered: a read that a signal interrupts is tried again. A proved loop has
-// to end, and nothing says that the signals do: so the loop counts its turns down, from a number that no run uses up.
-fn read_some(fd: i32, buffer: &mut [u8]) -> isize {
-    let mut got = -1;
-    let mut turns = u64::MAX;
-    while 0 < turns {
-        got = libc::read(fd, buffer);
-        if 0 <= got {
-            return got;
-        }
-        if os::errno() != libc::EINTR {
-            return got;
-        }
-        turns -= 1;
-    }
-    got
-}
-
 // Reads behind the bytes kept, where there is always room, and lists.
 fn turn(fd: i32, kept: usize, buffer: &mut [u8], frames: &mut [u8], text: &mut [u8]) -> Progress
     requires { ⌜ (kept ≤ mostKept) × (mostKept < length (now buffer)) ⌝ }
     ensures { λ r. ⌜ r .kept ≤ mostKept ⌝ }
 {
-    let got = read_some(fd, &mut buffer[kept..]);
+    let got = program_input::read_some(fd, &mut buffer[kept..]);
     if got < 0 {
         return stopped(Next::Unread);
     }

@@ -15,25 +15,6 @@ const BEGINNING: usize = 13;
 
 const NAME: usize = BEGINNING + 4096;
 
-// Whether an argument is `--help`.
-fn is_help(i: usize) -> bool {
-    let mut word = [0u8; 6];
-    let n = os::arg(i, &mut word);
-    check::same(&word[..n], b"--help")
-}
-
-// Whether one of the arguments is `--help`.
-fn asks_for_help(count: usize) -> bool {
-    let mut i = 1;
-    while i < count {
-        if is_help(i) {
-            return true;
-        }
-        i += 1;
-    }
-    false
-}
-
 // Lists an input, whose name stands behind the beginning of a message, and says whether the program goes on: an input that
 // cannot be read is named, and lines that cannot be written end the program.
 fn list_input(fd: i32, name: &[u8], buffer: &mut [u8], frames: &mut [u8], text: &mut [u8]) -> bool
@@ -100,7 +81,7 @@ fn list_files(count: usize, buffer: &mut [u8], frames: &mut [u8], text: &mut [u8
 // Lists with 64 KiB of input at a time; the text of its frames is at most twice as long.
 fn main() {
     let count = os::arg_count();
-    if asks_for_help(count) {
+    if program_input::asks_for_help(count) {
         io::write_all(
             STDOUT_FILENO,
             b"usage: list_frames [FILE ...]   lists the frames of each file, or of standard input where none is named\n",

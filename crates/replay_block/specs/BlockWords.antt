@@ -6,7 +6,7 @@ use mathlib.Core.Path.{_≡_, refl, sym, ap, _∙_}
 use mathlib.Core.Bool.{true, false, true≢false, false≢true}
 use mathlib.Core.Logic.{_⊎_, inl, inr}
 use mathlib.Core.List.{List, [], _∷_}
-use lib.ListN.{length, take}
+use lib.ListN.{length, take, drop, length-append}
 use lib.Seq.{take-append-seam}
 use lib.Dec.{leb, eqb}
 use borrow.Author.Tests.{leb-true, leb-false, eqb-true, eqb-false}
@@ -20,7 +20,7 @@ use Rattle.trace.specs.declared.Front.{Front}
 use Rattle.trace.specs.declared.Front.the-variants as front
 use Rattle.replay.specs.Replay.{isWithin}
 use Rattle.replay.specs.StepWords.{InRanges, within-iff}
-use Rattle.replay_block.specs.Block.{restIn, isStop, refusalOf, BlockOutcome, blockPlayed, blockReplayed}
+use Rattle.replay_block.specs.Block.{restIn, isStop, refusalOf, linesIn, BlockOutcome, blockOutcome, blockPlayed, blockReplayed}
 use Rattle.replay_block.specs.ReadingLaws.{Stops, rest-stops}
 use Rattle.replay_block.specs.BlockLaws.{rest-few}
 use Rattle.replay_block.specs.Blocks.{BlockCall, IsBlock, keptBy, Blocking, declines, stops, plays, blocking}
@@ -134,3 +134,20 @@ block-right before s c h = go (blocking h)
               let same : kept ≡ length (restIn block) = cc (ap (λ (r : BlockPlayed). r .answer) a, e) in
               rw (e, b, same, take-append-seam (restIn block) _) (rest-few (restIn block) (eqb (c .read) 0) (rest-stops block) on);
         }
+
+-- The numbers of an answer: the text lies within its memory, and at most 6 bytes are kept.
+abbrev pub AnswerWithin : BlockAnswer → List ℕ → Type 0
+AnswerWithin (Refused n) text = Unit
+AnswerWithin (Played used kept) text = (used ≤ length text) × (kept ≤ 6)
+AnswerWithin (Stopped n used) text = used ≤ length text
+
+pub answer-within : {leftBuffer left : List ℕ} {returned : BlockPlayed} (kept read : ℕ) (s : Session) (buffer lent : List ℕ) →
+    blockOutcome (returned .session) (returned .answer) leftBuffer left ≡ blockReplayed kept read s buffer lent → AnswerWithin (returned .answer) left
+answer-within {leftBuffer} {left} {returned} kept read s buffer lent h = go (blocking h)
+  where
+    go : Blocking kept read s buffer lent returned leftBuffer left → AnswerWithin (returned .answer) left
+    go (declines n out a b l) = rw a tt
+    go (stops {block} is stop a b l) = rw (a, l) (omega (arith, length-append (linesIn block s) (drop (length (linesIn block s)) lent)))
+    go (plays {block} is on a b l) =
+        rw (a, l)
+        (omega (arith, length-append (linesIn block s) (drop (length (linesIn block s)) lent)), rest-few (restIn block) (eqb read 0) (rest-stops block) on)

@@ -2,8 +2,8 @@
 use mathlib.Core.Path.{_≡_}
 use borrow.Author.Needs.{needs}
 use lib.ListN.{length}
-use Rattle.list_frames.proofs.input.read_some.Statement.{statement}
-use Rattle.list_frames.proofs.input.read_some.Tie as tie
+use Rattle.program_input.proofs.read_some.Statement.{statement}
+use Rattle.program_input.proofs.read_some.Tie as tie
 
 abbrev Inv-loop : tie.InvT-loop
 Inv-loop fd buffer₀ got₀ turns₀ buffer got turns = length buffer ≡ length buffer₀

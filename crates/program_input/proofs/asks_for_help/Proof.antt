@@ -1,8 +1,8 @@
 -- Nothing is kept from turn to turn. The measure is the number of arguments that are left.
 use Prim.Native.Nat.{_-_}
 use borrow.Author.Needs.{needs}
-use Rattle.list_frames.proofs.asks_for_help.Statement.{statement}
-use Rattle.list_frames.proofs.asks_for_help.Tie as tie
+use Rattle.program_input.proofs.asks_for_help.Statement.{statement}
+use Rattle.program_input.proofs.asks_for_help.Tie as tie
 
 abbrev Inv-loop : tie.InvT-loop
 Inv-loop count i₀ i = Unit

@@ -1,0 +1,112 @@
+-- Laws of numbers in decimal: they are digits with no zeros in front, they spell their number, and they are what `io::decimal` writes.
+use Prim.Native.Nat.{ℕ, zero, suc, _+_, _-_, _*_, _/_, _%_, _^_, _≤_, _<_}
+use mathlib.Core.Path.{_≡_, refl, _∙_}
+use mathlib.Core.List.{List, [], _∷_, _++_}
+use mathlib.Core.Bool.{Bool, true, false, and-eq-true-iff}
+use mathlib.Core.Logic.{_↔_}
+use native.Mathlib.Nat.{pow-succ', pow-le-pow-right, not-suc-le-zero}
+use native.Mathlib.Omega.{arith}
+use lib.ListN.{length, getD, length-append}
+use lib.Dec.{leb, ltb}
+use borrow.Author.Tests.{lt-ltb, le-ltb, ltb-true, ltb-false, le-leb, leb-true, leb-false}
+use Rattle.io.specs.Digits.{digits, Fewest}
+use Rattle.laws.specs.All.{AllOf}
+use Rattle.laws.specs.AllLaws.{all-append}
+use Rattle.laws.specs.TestLaws.{pick-cases}
+use Rattle.replay_text.specs.Decimal.{isDigit, worth, decimalWithin, decimal, spelledFrom, spelled}
+
+-- A byte is a digit where it is 48 to 57.
+abbrev pub IsDigit : ℕ → Type 0
+IsDigit b = (48 ≤ b) × (b ≤ 57)
+
+-- The test says so.
+pub digit-iff : (b : ℕ) → (isDigit b ≡ true) ↔ IsDigit b
+unfolding isDigit
+digit-iff b = (
+  λ h.
+      let both = and-eq-true-iff (leb 48 b) (leb b 57) .0 h in
+      (leb-true 48 b (both .0), leb-true b 57 (both .1)),
+  λ h. rw (le-leb 48 b (h .0), le-leb b 57 (h .1)),
+)
+
+-- What holds of both ways to write one digit more holds of the digits.
+module _ (P : ℕ → List ℕ → Type 0)
+    (one : (n : ℕ) → n < 10 → P n ((48 + n) ∷ []))
+    (more : (n : ℕ) (front : List ℕ) → 10 ≤ n → P (n / 10) front → P n (front ++ ((48 + n % 10) ∷ []))) where
+  decimal-cases : (k n : ℕ) → n < k → P n (decimalWithin k n)
+  unfolding decimalWithin
+  decimal-cases zero n h = absurd (not-suc-le-zero h)
+  decimal-cases (suc k) n h =
+      pick-cases (P n) (ltb n 10) (λ below. one n (ltb-true n 10 below))
+      (λ above.
+      let large = ltb-false n 10 above in
+      more n (decimalWithin k (n / 10)) large (decimal-cases k (n / 10) (omega arith)))
+
+-- Digits behind others spell on.
+spelled-behind : (xs ys : List ℕ) (n : ℕ) → spelledFrom n (xs ++ ys) ≡ spelledFrom (spelledFrom n xs) ys
+unfolding spelledFrom
+spelled-behind [] ys n = refl
+spelled-behind (x ∷ xs) ys n = spelled-behind xs ys (10 * n + worth x)
+
+-- A number in decimal spells the number.
+pub decimal-spelled : (n : ℕ) → spelled (decimal n) ≡ n
+unfolding decimal spelled spelledFrom
+decimal-spelled n = decimal-cases (λ n text. spelledFrom 0 text ≡ n) (λ n h. omega arith) more (suc n) n (omega arith)
+  where
+    more : (n : ℕ) (front : List ℕ) → 10 ≤ n → spelledFrom 0 front ≡ n / 10 → spelledFrom 0 (front ++ ((48 + n % 10) ∷ [])) ≡ n
+    more n front h e = spelled-behind front ((48 + n % 10) ∷ []) 0 ∙ rw e (omega arith)
+
+-- It is digits, at least one, and the first is no zero unless the number is.
+pub record InDecimal (n : ℕ) (text : List ℕ) : Type 0 where
+  pub all : AllOf IsDigit text
+  pub some : 0 < length text
+  pub first : 0 < n → 49 ≤ getD text 0 0
+
+pub decimal-digits : (n : ℕ) → InDecimal n (decimal n)
+unfolding decimal
+decimal-digits n = decimal-cases InDecimal (λ n h. record { all = ((omega arith, omega arith), tt); some = omega arith; first = λ p. omega arith }) more (suc n) n (omega arith)
+  where
+    first-of : (front : List ℕ) (b : ℕ) → 0 < length front → getD (front ++ (b ∷ [])) 0 0 ≡ getD front 0 0
+    first-of [] b h = absurd (not-suc-le-zero h)
+    first-of (x ∷ xs) b h = refl
+
+    more : (n : ℕ) (front : List ℕ) → 10 ≤ n → InDecimal (n / 10) front → InDecimal n (front ++ ((48 + n % 10) ∷ []))
+    more n front h d =
+        record {
+          all = all-append IsDigit front ((48 + n % 10) ∷ []) (d .all) ((omega arith, omega arith), tt);
+          some = rw length-append (omega arith);
+          first = λ p. rw (first-of front (48 + n % 10) (d .some)) (d .first (omega arith));
+        }
+
+-- The fewest digits that hold a number are its digits in decimal, of any number of places that is enough.
+fewest-within : (count k n : ℕ) → n < k → Fewest 10 1 n count → digits 10 count n ≡ decimalWithin k n
+unfolding decimalWithin
+fewest-within count zero n h few = absurd (not-suc-le-zero h)
+fewest-within zero (suc k) n h few = absurd (not-suc-le-zero (few .0))
+fewest-within (suc zero) (suc k) n h few =
+    let below : n < 10 = few .1 in
+    let same : n % 10 ≡ n = omega arith in
+    rw (same, lt-ltb n 10 below)
+fewest-within (suc (suc c)) (suc k) n h few =
+    let one-less : suc (suc c) - 1 ≡ suc c = omega arith in
+    let two-less : suc c - 1 ≡ c = omega arith in
+    let large : 10 ^ suc c ≤ n = rw one-less at (few .2 (omega arith)) in
+    let ten : 10 ≤ n = omega (arith, pow-le-pow-right {n = 10} (omega arith) {i = 1} {j = suc c} (omega arith)) in
+    let least : n % 10 < 10 = omega arith in
+    let front : Fewest 10 1 (n / 10) (suc c) = (omega arith, omega (arith, pow-succ' 10 (suc c)), λ p. rw two-less (omega (arith, pow-succ' 10 c))) in
+    rw (le-ltb n 10 ten, fewest-within (suc c) k (n / 10) (omega arith) front, lt-ltb (n % 10) 10 least)
+
+-- What `io::decimal` writes is the number in decimal.
+pub written-decimal : (count n : ℕ) → Fewest 10 1 n count → digits 10 count n ≡ decimal n
+unfolding decimal
+written-decimal count n few = fewest-within count (suc n) n (omega arith) few
+
+-- A number below 10^20, as every one of 64 bits is, has at most twenty digits.
+pub fewest-most : (count n : ℕ) → n < 10 ^ 20 → Fewest 10 1 n count → count ≤ 20
+fewest-most count n small few = by (leb count 20) refl
+  where
+    by : (t : Bool) → leb count 20 ≡ t → count ≤ 20
+    by true h = leb-true count 20 h
+    by false h =
+        let above = leb-false count 20 h in
+        absurd (omega (arith, few .2 (omega arith), pow-le-pow-right {n = 10} (omega arith) {i = 20} {j = count - 1} (omega arith)))

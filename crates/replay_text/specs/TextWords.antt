@@ -1,0 +1,194 @@
+-- The lines on standard error in words: the numbers that stand in them are these, in this order, and each is one line; and worked lines.
+use Prim.Native.Nat.{ℕ, _+_, _*_, _<_}
+use mathlib.Core.Path.{_≡_, refl, ap, _∙_}
+use mathlib.Core.List.{List, [], _∷_, _++_, append-assoc}
+use mathlib.Core.Bool.{Bool, true, false, _&&_, not, false≢true}
+use native.Mathlib.Nat.{not-suc-le-zero}
+use native.Mathlib.Omega.{arith}
+use lib.ListN.{length}
+use lib.Dec.{eqb}
+use borrow.Author.Tests.{ne-eqb}
+use Rattle.laws.specs.All.{allOf, AllOf}
+use Rattle.laws.specs.Test.{pick}
+use Rattle.laws.specs.TestLaws.{pick-cases}
+use Rattle.frame.specs.Refusals.{badRecord, cutOff}
+use Rattle.replay_text.specs.Decimal.{isDigit, worth, decimal, decimalWithin, spelled, spelledFrom}
+use Rattle.replay_text.specs.DecimalLaws.{IsDigit, digit-iff, decimal-digits, decimal-spelled}
+use Rattle.replay_text.specs.Texts.{quoted, labelled, meaning, refusedText, countsText}
+
+-- Where a reading of a text stands: outside of every number, or behind digits that spell a number.
+data Reading : Type 0 where
+  outside : Reading
+  inside : ℕ → Reading
+
+-- The numbers that stand in the rest of a text.
+numbersFrom : Reading → List ℕ → List ℕ
+numbersFrom outside [] = []
+numbersFrom (inside n) [] = n ∷ []
+numbersFrom outside (b ∷ bs) = pick (isDigit b) (numbersFrom (inside (worth b)) bs) (numbersFrom outside bs)
+numbersFrom (inside n) (b ∷ bs) = pick (isDigit b) (numbersFrom (inside (10 * n + worth b)) bs) (n ∷ numbersFrom outside bs)
+
+-- The numbers that stand in a text, in their order.
+pub numbersIn : List ℕ → List ℕ
+numbersIn text = numbersFrom outside text
+
+-- A text is one line: its first newline is its last byte.
+pub isOneLine : List ℕ → Bool
+isOneLine [] = false
+isOneLine (b ∷ bs) = pick (eqb b 10) (eqb (length bs) 0) (isOneLine bs)
+
+-- Digits read on.
+digits-on : (digits rest : List ℕ) (n : ℕ) → AllOf IsDigit digits → numbersFrom (inside n) (digits ++ rest) ≡ numbersFrom (inside (spelledFrom n digits)) rest
+unfolding numbersFrom spelledFrom
+digits-on [] rest n h = refl
+digits-on (b ∷ bs) rest n h = rw (digit-iff b .1 (h .0)) (digits-on bs rest (10 * n + worth b) (h .1))
+
+-- Digits are read as the number that they spell.
+digits-read : (digits rest : List ℕ) → AllOf IsDigit digits → 0 < length digits → numbersFrom outside (digits ++ rest) ≡ numbersFrom (inside (spelled digits)) rest
+unfolding numbersFrom spelled spelledFrom
+digits-read [] rest h some = absurd (not-suc-le-zero some)
+digits-read (b ∷ bs) rest h some =
+    let first : 10 * 0 + worth b ≡ worth b = omega arith in
+    rw (digit-iff b .1 (h .0), first) (digits-on bs rest (worth b) (h .1))
+
+-- A number in decimal is read as the number.
+number-read : (n : ℕ) (rest : List ℕ) → numbersFrom outside (decimal n ++ rest) ≡ numbersFrom (inside n) rest
+number-read n rest =
+    let text = decimal-digits n in
+    digits-read (decimal n) rest (text .all) (text .some) ∙ rw (decimal-spelled n)
+
+-- Digits end no line.
+digits-line : (digits rest : List ℕ) → AllOf IsDigit digits → isOneLine (digits ++ rest) ≡ isOneLine rest
+unfolding isOneLine
+digits-line [] rest h = refl
+digits-line (b ∷ bs) rest h =
+    let other : b ≡ 10 → ⊥ = λ e. omega (arith, h .0) in
+    rw (ne-eqb b 10 other) (digits-line bs rest (h .1))
+
+number-line : (n : ℕ) (rest : List ℕ) → isOneLine (decimal n ++ rest) ≡ isOneLine rest
+number-line n rest = digits-line (decimal n) rest (decimal-digits n .all)
+
+-- A byte is no digit and no newline.
+unfoldable isPlain : ℕ → Bool
+isPlain b = not (isDigit b) && not (eqb b 10)
+
+-- No byte of a label is a digit or a newline.
+abbrev Plain : List ℕ → Type 0
+Plain label = allOf isPlain label ≡ true
+
+-- So its first byte is neither, and its rest is plain too.
+record PlainFirst (b : ℕ) (bs : List ℕ) : Type 0 where
+  no-digit : isDigit b ≡ false
+  no-end : eqb b 10 ≡ false
+  behind : Plain bs
+
+plain-first : (b : ℕ) (bs : List ℕ) → Plain (b ∷ bs) → PlainFirst b bs
+unfolding allOf isPlain
+plain-first b bs h = by (isDigit b) (eqb b 10) refl refl h
+  where
+    by : (digit end : Bool) → isDigit b ≡ digit → eqb b 10 ≡ end → (not digit && not end && allOf isPlain bs) ≡ true → PlainFirst b bs
+    by false false d e h = record { no-digit = d; no-end = e; behind = h }
+    by false true d e h = absurd (false≢true h)
+    by true end d e h = absurd (false≢true h)
+
+-- What stands behind a label is read as if it stood alone; the label ends a number before it.
+label-line : (label rest : List ℕ) → Plain label → isOneLine (label ++ rest) ≡ isOneLine rest
+unfolding isOneLine
+label-line [] rest h = refl
+label-line (b ∷ bs) rest h = let first = plain-first b bs h in rw (first .no-end) (label-line bs rest (first .behind))
+
+label-read : (label rest : List ℕ) → Plain label → numbersFrom outside (label ++ rest) ≡ numbersFrom outside rest
+unfolding numbersFrom
+label-read [] rest h = refl
+label-read (b ∷ bs) rest h = let first = plain-first b bs h in rw (first .no-digit) (label-read bs rest (first .behind))
+
+label-ends : (label rest : List ℕ) (n : ℕ) → Plain label → 0 < length label → numbersFrom (inside n) (label ++ rest) ≡ n ∷ numbersFrom outside rest
+unfolding numbersFrom
+label-ends [] rest n h some = absurd (not-suc-le-zero some)
+label-ends (b ∷ bs) rest n h some =
+    let first = plain-first b bs h in
+    rw (first .no-digit) (ap (λ (l : List ℕ). n ∷ l) (label-read bs rest (first .behind)))
+
+-- A text is one line, and these numbers stand in it.
+pub record Line (text numbers : List ℕ) : Type 0 where
+  pub one : isOneLine text ≡ true
+  pub says : numbersIn text ≡ numbers
+
+-- What stands behind a number in a line: it ends that number and the line, and these numbers stand in it.
+record Behind (text numbers : List ℕ) : Type 0 where
+  line : isOneLine text ≡ true
+  says : (n : ℕ) → numbersFrom (inside n) text ≡ n ∷ numbers
+
+-- The newline; a label and the newline.
+newline-behind : Behind (10 ∷ []) []
+unfolding isOneLine numbersFrom isDigit
+newline-behind = record { line = refl; says = λ n. refl }
+
+label-behind : (label : List ℕ) → Plain label → 0 < length label → Behind (label ++ (10 ∷ [])) []
+unfolding isOneLine numbersFrom isDigit
+label-behind label plain some = record { line = label-line label (10 ∷ []) plain; says = λ n. label-ends label (10 ∷ []) n plain some }
+
+-- A label and a number before what stands behind a number: behind another number, or at the front of the line.
+module _ (label : List ℕ) (plain : Plain label) (n : ℕ) {rest numbers : List ℕ} (b : Behind rest numbers) where
+  joined : labelled label n ++ rest ≡ label ++ (decimal n ++ rest)
+  unfolding labelled
+  joined = append-assoc label (decimal n) rest
+
+  labelled-one : isOneLine (labelled label n ++ rest) ≡ true
+  labelled-one = ap isOneLine joined ∙ label-line label (decimal n ++ rest) plain ∙ number-line n rest ∙ b .line
+
+  labelled-behind : 0 < length label → Behind (labelled label n ++ rest) (n ∷ numbers)
+  labelled-behind some =
+      record {
+        line = labelled-one;
+        says = λ before.
+            ap (numbersFrom (inside before)) joined
+            ∙ label-ends label (decimal n ++ rest) before plain some
+            ∙ ap (λ (l : List ℕ). before ∷ l) (number-read n rest ∙ b .says n);
+      }
+
+  labelled-first : Line (labelled label n ++ rest) (n ∷ numbers)
+  unfolding numbersIn
+  labelled-first =
+      record {
+        one = labelled-one;
+        says = ap (numbersFrom outside) joined ∙ label-read label (decimal n ++ rest) plain ∙ number-read n rest ∙ b .says n;
+      }
+
+-- What a refusal means ends the line.
+meaning-behind : (refusal : ℕ) → Behind (meaning refusal) []
+unfolding meaning allOf isPlain isDigit
+meaning-behind refusal =
+    pick-cases P (eqb refusal badRecord) (λ unknown. label-behind (quoted ": an unknown kind of record, or a field out of its range") refl (omega arith))
+    (λ other. pick-cases P (eqb refusal cutOff) (λ cut. label-behind (quoted ": the trace ends inside the record") refl (omega arith)) (λ none. newline-behind))
+  where
+    P : List ℕ → Type 0
+    P text = Behind text []
+
+-- The line of a refused record says the refusal's number, and then the place.
+pub refused-line : (refusal place : ℕ) → Line (refusedText refusal place) (refusal ∷ place ∷ [])
+unfolding refusedText allOf isPlain isDigit
+refused-line refusal place =
+    let placed = labelled-behind (quoted " at place ") refl place (meaning-behind refusal) (omega arith) in
+    rw append-assoc (labelled-first (quoted "replay_trace: refused with ") refl refusal placed)
+
+-- The line at the end says the records, then the frames, then the replies.
+pub counts-line : (records frames replies : ℕ) → Line (countsText records frames replies) (records ∷ frames ∷ replies ∷ [])
+unfolding countsText allOf isPlain isDigit
+counts-line records frames replies =
+    let third = labelled-behind (quoted ", replies ") refl replies newline-behind (omega arith) in
+    let second = labelled-behind (quoted ", frames put to the meter ") refl frames third (omega arith) in
+    simp append-assoc (labelled-first (quoted "replay_trace: records ") refl records second)
+
+-- A record of an unknown kind at the beginning; a trace that ends inside a record; the end of a replay.
+first-refused : refusedText 9 0 ≡ quoted "replay_trace: refused with 9 at place 0: an unknown kind of record, or a field out of its range\n"
+unfolding refusedText labelled meaning decimal decimalWithin
+first-refused = refl
+
+cut-off : refusedText 10 81920 ≡ quoted "replay_trace: refused with 10 at place 81920: the trace ends inside the record\n"
+unfolding refusedText labelled meaning decimal decimalWithin
+cut-off = refl
+
+three-counts : countsText 110 7 0 ≡ quoted "replay_trace: records 110, frames put to the meter 7, replies 0\n"
+unfolding countsText labelled decimal decimalWithin
+three-counts = refl

@@ -1,0 +1,147 @@
+// The texts of the replay program of document 02, W1: the address that it is given, and what it writes on standard error.
+pub mod address;
+mod put;
+
+use frame::refusal::BAD_RECORD;
+use frame::refusal::CUT_OFF;
+use put::put;
+use put::put_labelled;
+ghost use mathlib.Core.Path.{_≡_};
+ghost use Prim.Native.Nat.{_+_, _≤_};
+ghost use mathlib.Core.List.{_++_};
+ghost use lib.ListN.{length, take};
+ghost use Rattle.laws.specs.Memory.{outcome};
+ghost use Rattle.laws.specs.Puts.{Puts};
+ghost use Rattle.replay_text.specs.Texts.{meaning, writing, refusedText, countsText, reasonText, usageText};
+
+// The answer to the writing of a text; only `Length` leaves bytes in the output buffer.
+pub enum Written {
+    // The text's length, its newlines among it.
+    Length(usize),
+    // An output buffer shorter than the text.
+    TooLittleMemory,
+}
+
+// Why it is said how the program is called.
+pub enum Reason {
+    // It was asked.
+    Asked,
+    // The call has no argument, or more than one.
+    NotOneArgument,
+    // The argument is not twelve digits, or an address that no meter has.
+    BadAddress,
+}
+
+// The length of a buffer in which every text fits.
+const LINE: usize = 256;
+
+// Writes a text to the front of the output buffer.
+fn write(text: &[u8], out: &mut [u8]) -> Written
+    ensures { λ r. ⌜ outcome r (now (out .exit)) ≡ writing (now (text .entry)) (now (out .entry)) ⌝ }
+{
+    if out.len() < text.len() {
+        return Written::TooLittleMemory;
+    }
+    bytes::copy(text, out);
+    Written::Length(text.len())
+}
+
+// Puts what a refusal means, and the end of the line, behind the first `at` bytes of a line, and returns where it ends.
+fn put_meaning(refusal: u8, at: usize, line: &mut [u8]) -> usize
+    requires { ⌜ at + 64 ≤ length (now line) ⌝ }
+    ensures { λ r. ⌜ Puts (take at (now (line .entry)) ++ meaning refusal) r (now (line .entry)) (now (line .exit)) ⌝ }
+{
+    if refusal == BAD_RECORD {
+        return put(
+            b": an unknown kind of record, or a field out of its range\n",
+            at,
+            line,
+        );
+    }
+    if refusal == CUT_OFF {
+        return put(b": the trace ends inside the record\n", at, line);
+    }
+    put(b"\n", at, line)
+}
+
+// Puts the line of a refused record to the front of a buffer, and returns how many bytes it has.
+fn put_refused(refusal: u8, place: u64, line: &mut [u8]) -> usize
+    requires { ⌜ 256 ≤ length (now line) ⌝ }
+    ensures { λ r. ⌜ Puts (refusedText refusal place) r (now (line .entry)) (now (line .exit)) ⌝ }
+{
+    let numbered = put_labelled(b"replay_trace: refused with ", refusal as u64, 0, line);
+    let placed = put_labelled(b" at place ", place, numbered, line);
+    put_meaning(refusal, placed, line)
+}
+
+// Puts the line of the counts to the front of a buffer, and returns how many bytes it has.
+fn put_counts(records: u64, frames: u64, replies: u64, line: &mut [u8]) -> usize
+    requires { ⌜ 256 ≤ length (now line) ⌝ }
+    ensures { λ r. ⌜ Puts (countsText records frames replies) r (now (line .entry)) (now (line .exit)) ⌝ }
+{
+    let first = put_labelled(b"replay_trace: records ", records, 0, line);
+    let second = put_labelled(b", frames put to the meter ", frames, first, line);
+    let third = put_labelled(b", replies ", replies, second, line);
+    put(b"\n", third, line)
+}
+
+// Puts why it is said how the program is called to the front of a buffer, and returns how many bytes that has.
+fn put_reason(reason: Reason, line: &mut [u8]) -> usize
+    requires { ⌜ 256 ≤ length (now line) ⌝ }
+    ensures { λ r. ⌜ Puts (reasonText reason) r (now (line .entry)) (now (line .exit)) ⌝ }
+{
+    match reason {
+        Reason::Asked => 0,
+        Reason::NotOneArgument => put(
+            b"replay_trace: one argument is needed, the address of the meter\n",
+            0,
+            line,
+        ),
+        Reason::BadAddress => put(
+            b"replay_trace: the address has to be twelve digits, and not twelve nines\n",
+            0,
+            line,
+        ),
+    }
+}
+
+// Puts how the program is called, and before it why that is said, to the front of a buffer, and returns how many bytes it has.
+fn put_usage(reason: Reason, line: &mut [u8]) -> usize
+    requires { ⌜ 256 ≤ length (now line) ⌝ }
+    ensures { λ r. ⌜ Puts (usageText reason) r (now (line .entry)) (now (line .exit)) ⌝ }
+{
+    let at = put_reason(reason, line);
+    put(
+        b"usage: replay_trace ADDRESS < TRACE   plays a trace to a fresh meter of this address, twelve digits, and lists its replies\n",
+        at,
+        line,
+    )
+}
+
+// Writes the line of a record that is refused: the refusal's number, the place of the record in the whole trace, and what the number
+// means.
+pub fn write_refused(refusal: u8, place: u64, out: &mut [u8]) -> Written
+    ensures { λ r. ⌜ outcome r (now (out .exit)) ≡ writing (refusedText refusal place) (now (out .entry)) ⌝ }
+{
+    let mut line = [0u8; LINE];
+    let used = put_refused(refusal, place, &mut line);
+    write(&line[..used], out)
+}
+
+// Writes the line at the end: how many records were played, how many frames put to the meter, and how many replies it gave.
+pub fn write_counts(records: u64, frames: u64, replies: u64, out: &mut [u8]) -> Written
+    ensures { λ r. ⌜ outcome r (now (out .exit)) ≡ writing (countsText records frames replies) (now (out .entry)) ⌝ }
+{
+    let mut line = [0u8; LINE];
+    let used = put_counts(records, frames, replies, &mut line);
+    write(&line[..used], out)
+}
+
+// Writes how the program is called, and before it why that is said.
+pub fn write_usage(reason: Reason, out: &mut [u8]) -> Written
+    ensures { λ r. ⌜ outcome r (now (out .exit)) ≡ writing (usageText reason) (now (out .entry)) ⌝ }
+{
+    let mut line = [0u8; LINE];
+    let used = put_usage(reason, &mut line);
+    write(&line[..used], out)
+}

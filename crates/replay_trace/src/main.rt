@@ -1,0 +1,103 @@
+// The replay program of document 02, W1: its argument is the address of a meter, twelve digits, highest first. It plays the trace on standard
+// input to a fresh receiver and a fresh meter of this address, writes a line for each reply on standard output, and at the end of the trace one
+// line on standard error: the records, the frames put to the meter and the replies. A record that is refused is said there, with its place in the
+// whole trace, and ends the program; the replies of the records before it are written.
+mod input;
+
+use input::Next;
+use libc::STDERR_FILENO;
+use libc::STDOUT_FILENO;
+use meter_counting::HostAnswer;
+use replay_block::Session;
+use replay_text::Reason;
+use replay_text::Written;
+use replay_text::address::read_address;
+
+// The length of a message for standard error, in which every text fits.
+const MESSAGE: usize = 256;
+
+// Writes the text that stands at the front of a message. Every text fits in a message, so that there always is one.
+fn say(fd: i32, written: Written, message: &[u8]) {
+    let Written::Length(length) = written else {
+        return;
+    };
+    if message.len() < length {
+        return;
+    }
+    io::write_all(fd, &message[..length]);
+}
+
+// Says how the program is called, and why that is said.
+fn say_usage(fd: i32, reason: Reason) {
+    let mut message = [0u8; MESSAGE];
+    let written = replay_text::write_usage(reason, &mut message);
+    say(fd, written, &message);
+}
+
+// Says that a record is refused, and at which place of the whole trace it begins.
+fn say_refused(refusal: u8, place: u64) {
+    let mut message = [0u8; MESSAGE];
+    let written = replay_text::write_refused(refusal, place, &mut message);
+    say(STDERR_FILENO, written, &message);
+}
+
+// Says how many records were played, how many frames put to the meter, and how many replies it gave.
+fn say_counts(session: Session) {
+    let mut message = [0u8; MESSAGE];
+    let written = replay_text::write_counts(
+        session.records,
+        session.frames,
+        session.replies,
+        &mut message,
+    );
+    say(STDERR_FILENO, written, &message);
+}
+
+// Replays the trace on standard input, and says how it ended. A block and the bytes of a record kept before it, at most 6, are read and played
+// at a time; the text of so many bytes has 8,192 bytes, and 18 for each of them.
+fn replay_input(session: Session) {
+    let mut buffer = [0u8; 8198];
+    let mut text = [0u8; 155756];
+    let end = input::replay_all(session, &mut buffer, &mut text);
+    let next = end.next;
+    let last = end.session;
+    match next {
+        Next::More => {}
+        Next::Ended => say_counts(last),
+        Next::Refused(refusal) => say_refused(refusal, last.place),
+        Next::Unread => os::fail(b"replay_trace: standard input"),
+        Next::Unwritten => os::fail(b"replay_trace: standard output"),
+    }
+}
+
+// Replays with the address that the argument spells. One that is longer than an address is read as an empty text.
+fn replay_with_argument() {
+    let mut word = [0u8; 12];
+    let n = os::arg(1, &mut word);
+    let read = read_address(&word[..n]);
+    if !read.found {
+        say_usage(STDERR_FILENO, Reason::BadAddress);
+        return;
+    }
+    let address = read.address;
+    let begun = replay_block::begin(address);
+    let answer = begun.answer;
+    let session = begun.session;
+    match answer {
+        HostAnswer::Refused(_) => say_usage(STDERR_FILENO, Reason::BadAddress),
+        HostAnswer::Done => replay_input(session),
+    }
+}
+
+fn main() {
+    let count = os::arg_count();
+    if program_input::asks_for_help(count) {
+        say_usage(STDOUT_FILENO, Reason::Asked);
+        return;
+    }
+    if count != 2 {
+        say_usage(STDERR_FILENO, Reason::NotOneArgument);
+        return;
+    }
+    replay_with_argument();
+}
