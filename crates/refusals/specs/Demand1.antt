@@ -69,6 +69,8 @@ use Rattle.replay.specs.declared.ReplayState.{ReplayState}
 use Rattle.replay_block.specs.Block.{blockReplayed}
 use Rattle.replay_block.specs.BlockWords.{blockPlayedSaid, CannotPlay, play-refuses}
 use Rattle.replay_block.specs.declared.Session.{Session}
+use Rattle.replay_text.specs.Texts as texts
+use Rattle.replay_text.specs.Said as said
 use Rattle.exchange.specs.Exchange.{Memories}
 use Rattle.exchange.specs.ExchangeTerms.{Typed}
 use Rattle.exchange.specs.Said.{ExchangeAnswers, exchange-answers}
@@ -148,6 +150,9 @@ pub record RefusalsChangeNothing : Type 0 where
   pub play-block : (kept read : ℕ) (s : Session) (buffer text : List ℕ)
       → let o = blockReplayed kept read s buffer text in
       Refuses {S = Session × List ℕ × List ℕ} (blockPlayedSaid (o .answer .answer)) (CannotPlay kept read s buffer text) (s, buffer, text) (o .answer .session, o .buffer, o .text)
+  -- What the replay program says on standard error.
+  pub write-text : (written m : List ℕ)
+      → let o = texts.writing written m in Refuses (said.writtenSaid (o .answer)) (length m < length written) m (o .memory)
   -- An exchange: a refusal, a silence, and what the reader makes of a reply.
   pub exchange : (request : Request) (m : Meter) (forward reverse : Rows) (lent : Memories) → Typed request → MeterSized m
       → ExchangeAnswers request m forward reverse lent
@@ -181,5 +186,6 @@ demand-1 =
       start-replay = start-refused;
       step-replay = replayed.step-refuses;
       play-block = play-refuses;
+      write-text = said.writing-refuses;
       exchange = exchange-answers;
     }

@@ -1,13 +1,13 @@
--- A call over a block in words: where it is refused, where it stops and with which number, and that it has played every whole good record before.
+-- A call over a block in words: where it is refused and with which number, where it stops, and what it leaves.
 use Prim.Native.Nat.{ℕ, _+_, _*_, _≤_, _<_}
 use native.Mathlib.Omega.{arith}
 use native.Mathlib.Decide.{decLt}
 use mathlib.Core.Path.{_≡_, refl, sym, ap, _∙_}
 use mathlib.Core.Bool.{true, false, true≢false, false≢true}
-use mathlib.Core.Logic.{_⊎_, inl, inr}
+use mathlib.Core.Logic.{_↔_, _⊎_, inl, inr}
 use mathlib.Core.List.{List, [], _∷_}
 use lib.ListN.{length, take, drop, length-append}
-use lib.Seq.{take-append-seam}
+use lib.Seq.{take-append-seam, drop-append-seam}
 use lib.Dec.{leb, eqb}
 use borrow.Author.Tests.{leb-true, leb-false, eqb-true, eqb-false}
 use Rattle.laws.specs.Memory.{over}
@@ -18,9 +18,14 @@ use Rattle.trace.specs.Trace.{frontOf}
 use Rattle.trace.specs.FrontCases.{FrontCase, ended, no-kind, cut-off, bad-field, front-case}
 use Rattle.trace.specs.declared.Front.{Front}
 use Rattle.trace.specs.declared.Front.the-variants as front
-use Rattle.replay.specs.Replay.{isWithin}
+use Rattle.item_address.specs.Address.{Good}
+use Rattle.meter_counting.specs.declared.HostAnswer.the-variants.{Done, Refused as HostRefused}
+use Rattle.replay.specs.Replay.{isWithin, started}
+use Rattle.replay.specs.ByHand.{handStart}
+use Rattle.replay.specs.StartWords.{start-words}
 use Rattle.replay.specs.StepWords.{InRanges, within-iff}
-use Rattle.replay_block.specs.Block.{restIn, isStop, refusalOf, linesIn, BlockOutcome, blockOutcome, blockPlayed, blockReplayed}
+use Rattle.replay_block.specs.declared.Begun.{Begun}
+use Rattle.replay_block.specs.Block.{begun, restIn, isStop, refusalOf, linesIn, BlockOutcome, blockOutcome, blockPlayed, blockReplayed}
 use Rattle.replay_block.specs.ReadingLaws.{Stops, rest-stops}
 use Rattle.replay_block.specs.BlockLaws.{rest-few}
 use Rattle.replay_block.specs.Blocks.{BlockCall, IsBlock, keptBy, Blocking, declines, stops, plays, blocking}
@@ -64,6 +69,68 @@ play-refuses kept read s buffer text =
     can w b t (inr (inl short)) = omega arith
     can w b t (inr (inr short)) = omega arith
 
+-- With which number: 16 before anything else, then 1, and no other.
+pub record BlockRefusals (kept read : ℕ) (s : Session) (buffer text : List ℕ) (answer : BlockAnswer) : Type 0 where
+  pub sixteen : (answer ≡ Refused 16) ↔ (InRanges (s .state) → ⊥)
+  pub one : (answer ≡ Refused 1) ↔ (InRanges (s .state) × ((length buffer < kept + read) ⊎ (length text < 8192 + 18 * (kept + read))))
+  pub others : (n : ℕ) → answer ≡ Refused n → (n ≡ 16) ⊎ (n ≡ 1)
+
+-- An answer that is no refusal.
+not-stopped : {A : Type 0} {n k text : ℕ} → Stopped k text ≡ Refused n → A
+not-stopped e = let z : _≡_ {A = ℕ} 0 1 = cc in absurd (omega arith)
+
+not-played : {A : Type 0} {n text kept : ℕ} → Played text kept ≡ Refused n → A
+not-played e = let z : _≡_ {A = ℕ} 0 1 = cc in absurd (omega arith)
+
+same-number : {n k : ℕ} → Refused n ≡ Refused k → n ≡ k
+same-number e = cc
+
+-- Every call.
+pub block-refusals : (kept read : ℕ) (s : Session) (buffer text : List ℕ) → BlockRefusals kept read s buffer text (blockReplayed kept read s buffer text .answer .answer)
+unfolding blockReplayed blockPlayed
+block-refusals kept read s buffer text =
+    pick-cases P (isWithin (s .state))
+    (λ w. pick-cases P (leb (kept + read) (length buffer))
+    (λ b. pick-cases P (leb (8192 + 18 * (kept + read)) (length text))
+    (λ t. pick-cases P (isStop (frontOf (restIn (take (kept + read) buffer))) (eqb read 0))
+    (λ _. none not-stopped not-stopped (λ n. not-stopped) (within-iff (s .state) .0 w) (leb-true _ _ b) (leb-true _ _ t))
+    (λ _. none not-played not-played (λ n. not-played) (within-iff (s .state) .0 w) (leb-true _ _ b) (leb-true _ _ t)))
+    (λ t. short (within-iff (s .state) .0 w) (inr (leb-false _ _ t))))
+    (λ b. short (within-iff (s .state) .0 w) (inl (leb-false _ _ b))))
+    (λ w. out (λ ranges. false≢true (sym w ∙ within-iff (s .state) .1 ranges)))
+  where
+    P : BlockOutcome → Type 0
+    P o = BlockRefusals kept read s buffer text (o .answer .answer)
+
+    none : {answer : BlockAnswer} → (answer ≡ Refused 16 → ⊥) → (answer ≡ Refused 1 → ⊥) → ((n : ℕ) → answer ≡ Refused n → ⊥) → InRanges (s .state) →
+        kept + read ≤ length buffer → 8192 + 18 * (kept + read) ≤ length text → BlockRefusals kept read s buffer text answer
+    none a b c w fits room =
+        record {
+          sixteen = (λ e. absurd (a e), λ out. absurd (out w));
+          one = (λ e. absurd (b e), λ (v, few). absurd (can few));
+          others = λ n e. absurd (c n e);
+        }
+      where
+        can : (length buffer < kept + read) ⊎ (length text < 8192 + 18 * (kept + read)) → ⊥
+        can (inl few) = omega arith
+        can (inr few) = omega arith
+
+    short : InRanges (s .state) → (length buffer < kept + read) ⊎ (length text < 8192 + 18 * (kept + read)) → BlockRefusals kept read s buffer text (Refused 1)
+    short w few =
+        record {
+          sixteen = (λ e. absurd (omega (arith, same-number e)), λ out. absurd (out w));
+          one = (λ e. (w, few), λ _. refl);
+          others = λ n e. inr (sym (same-number e));
+        }
+
+    out : (InRanges (s .state) → ⊥) → BlockRefusals kept read s buffer text (Refused 16)
+    out none =
+        record {
+          sixteen = (λ e. none, λ _. refl);
+          one = (λ e. absurd (omega (arith, same-number e)), λ (w, few). absurd (none w));
+          others = λ n e. inl (sym (same-number e));
+        }
+
 -- What holds of a call that is not refused, behind what was kept.
 pub record BlockIsRight (before : List ℕ) (c : BlockCall) : Type 0 where
   -- it stops with 9 at an unknown kind or a field out of its range, and with 10 at a record that is cut off where the trace has ended
@@ -73,6 +140,10 @@ pub record BlockIsRight (before : List ℕ) (c : BlockCall) : Type 0 where
   pub played : (text kept : ℕ) → c .returned .answer ≡ Played text kept →
       (keptBy (c .returned .answer) before c ≡ []) ⊎ ((frontOf (keptBy (c .returned .answer) before c) ≡ front.Refused 10) × (0 < c .read))
   pub most : (text kept : ℕ) → c .returned .answer ≡ Played text kept → length (keptBy (c .returned .answer) before c) ≤ 6
+  -- what is beyond the lines, and beyond what is kept, is as it was
+  pub stopped-leaves : (n text : ℕ) → c .returned .answer ≡ Stopped n text → (c .leftBuffer ≡ c .buffer) × (drop text (c .left) ≡ drop text (c .lent))
+  pub played-leaves : (text kept : ℕ) → c .returned .answer ≡ Played text kept →
+      (drop kept (c .leftBuffer) ≡ drop kept (c .buffer)) × (drop text (c .left) ≡ drop text (c .lent))
 
 -- Where it stops, and where it does not.
 stop-at : (rest : List ℕ) (read : ℕ) (f : Front) → frontOf rest ≡ f → isStop f (eqb read 0) ≡ true →
@@ -114,6 +185,8 @@ block-right before s c h = go (blocking h)
           stopped = λ k text e. let z : _≡_ {A = ℕ} 0 1 = cc (ap (λ (r : BlockPlayed). r .answer) a, e) in absurd (omega arith);
           played = λ text kept e. let z : _≡_ {A = ℕ} 0 1 = cc (ap (λ (r : BlockPlayed). r .answer) a, e) in absurd (omega arith);
           most = λ text kept e. let z : _≡_ {A = ℕ} 0 1 = cc (ap (λ (r : BlockPlayed). r .answer) a, e) in absurd (omega arith);
+          stopped-leaves = λ k text e. let z : _≡_ {A = ℕ} 0 1 = cc (ap (λ (r : BlockPlayed). r .answer) a, e) in absurd (omega arith);
+          played-leaves = λ text kept e. let z : _≡_ {A = ℕ} 0 1 = cc (ap (λ (r : BlockPlayed). r .answer) a, e) in absurd (omega arith);
         }
     go (stops {block} is stop a b l) =
         let at = stop-at (restIn block) (c .read) (frontOf (restIn block)) refl stop in
@@ -123,6 +196,10 @@ block-right before s c h = go (blocking h)
               rw (e, ← is, ← same) at;
           played = λ text kept e. let z : _≡_ {A = ℕ} 0 1 = cc (ap (λ (r : BlockPlayed). r .answer) a, e) in absurd (omega arith);
           most = λ text kept e. let z : _≡_ {A = ℕ} 0 1 = cc (ap (λ (r : BlockPlayed). r .answer) a, e) in absurd (omega arith);
+          stopped-leaves = λ n text e.
+              let same : text ≡ length (linesIn block s) = cc (ap (λ (r : BlockPlayed). r .answer) a, e) in
+              (b, rw (l, same) (drop-append-seam (linesIn block s) _));
+          played-leaves = λ text kept e. let z : _≡_ {A = ℕ} 0 1 = cc (ap (λ (r : BlockPlayed). r .answer) a, e) in absurd (omega arith);
         }
     go (plays {block} is on a b l) =
         record {
@@ -133,6 +210,11 @@ block-right before s c h = go (blocking h)
           most = λ text kept e.
               let same : kept ≡ length (restIn block) = cc (ap (λ (r : BlockPlayed). r .answer) a, e) in
               rw (e, b, same, take-append-seam (restIn block) _) (rest-few (restIn block) (eqb (c .read) 0) (rest-stops block) on);
+          stopped-leaves = λ n text e. let z : _≡_ {A = ℕ} 0 1 = cc (ap (λ (r : BlockPlayed). r .answer) a, e) in absurd (omega arith);
+          played-leaves = λ text kept e.
+              let same : kept ≡ length (restIn block) = cc (ap (λ (r : BlockPlayed). r .answer) a, e) in
+              let long : text ≡ length (linesIn block s) = cc (ap (λ (r : BlockPlayed). r .answer) a, e) in
+              (rw (b, same) (drop-append-seam (restIn block) _), rw (l, long) (drop-append-seam (linesIn block s) _));
         }
 
 -- The numbers of an answer: the text lies within its memory, and at most 6 bytes are kept.
@@ -151,3 +233,19 @@ answer-within {leftBuffer} {left} {returned} kept read s buffer lent h = go (blo
     go (plays {block} is on a b l) =
         rw (a, l)
         (omega (arith, length-append (linesIn block s) (drop (length (linesIn block s)) lent)), rest-few (restIn block) (eqb read 0) (rest-stops block) on)
+
+-- The beginning of a session: the start by hand, and nothing counted; 8 for a bad address.
+pub record BeginWords (address : List ℕ) (b : Begun) : Type 0 where
+  pub state : b .session .state ≡ handStart address
+  pub place : b .session .place ≡ 0
+  pub records : b .session .records ≡ 0
+  pub frames : b .session .frames ≡ 0
+  pub replies : b .session .replies ≡ 0
+  pub made : Good address → b .answer ≡ Done
+  pub refused : (Good address → ⊥) → b .answer ≡ HostRefused 8
+
+pub begin-words : (address : List ℕ) → BeginWords address (begun address)
+unfolding begun started
+begin-words address =
+    let start = start-words address in
+    record { state = refl; place = refl; records = refl; frames = refl; replies = refl; made = start .made; refused = start .refused }
