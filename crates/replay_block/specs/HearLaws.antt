@@ -1,16 +1,15 @@
--- Laws of hearing on: what one call of the receiver keeps and spends, and the loop over the records of a block as long as nothing is delivered.
-use Prim.Native.Nat.{ℕ, zero, suc, _+_, _-_, _*_, _≤_, _<_}
+-- Laws of hearing: what one call of the receiver keeps and spends, where a byte or a silence stands, and the loop over the byte records of a block.
+use Prim.Native.Nat.{ℕ, suc, _+_, _-_, _*_, _/_, _≤_, _<_}
 use native.Mathlib.Omega.{arith}
 use mathlib.Core.Path.{_≡_, refl, sym, ap, subst, _∙_}
-use mathlib.Core.Bool.{Bool, true, false, false≢true, _&&_}
+use mathlib.Core.Bool.{Bool, true, false, false≢true, and-eq-true-iff}
 use mathlib.Core.List.{List, [], _∷_, _++_, map}
-use lib.ListN.{length, take, drop, length-append, length-drop, length-take}
-use lib.Seq.{take-append-seam, drop-drop}
-use lib.Dec.{ltb}
-use borrow.Author.Tests.{eqb-true}
-use Rattle.laws.specs.Memory.{Outcome, outcome, over}
-use Rattle.laws.specs.Test.{pick}
-use Rattle.frame.specs.EndToEnd.{cutFrom}
+use lib.ListN.{length, take, drop, getD, length-append, length-drop, length-take}
+use lib.Seq.{take-append-seam, drop-drop, drop-cons}
+use lib.Dec.{leb, eqb}
+use borrow.Author.Tests.{eqb-true, eq-eqb, leb-true, le-leb}
+use Rattle.laws.specs.Memory.{outcome, over}
+use Rattle.frame.specs.EndToEnd.{cutFrom, cut}
 use Rattle.frame.specs.Recognition.{recognised}
 use Rattle.frame.specs.RecognitionLaws.{open-most}
 use Rattle.frame.specs.declared.Recognised.the-variants.{Open}
@@ -31,19 +30,16 @@ use Rattle.replay_frames.specs.Putting.{meterAfter, repliesTo}
 use Rattle.trace.specs.Trace.{frontOf}
 use Rattle.trace.specs.Records.{ReadsAs, none}
 use Rattle.trace.specs.TraceLaws.{reads-one, good-within, good-size}
-use Rattle.trace.specs.FrontCases.{FrontCase, front-case}
+use Rattle.trace.specs.FrontCases.{FrontCase, front-case, case-front}
 use Rattle.trace.specs.FrontCases as case
 use Rattle.trace.specs.declared.TraceRecord.{TraceRecord}
 use Rattle.trace.specs.declared.TraceRecord.the-variants as records
-use Rattle.trace.specs.declared.Front.{Front}
 use Rattle.trace.specs.declared.Front.the-variants as front
-use Rattle.replay.specs.Replay.{Play, stateOf, heardPlay, hostPlay, played}
+use Rattle.replay.specs.Replay.{Play, stateOf, heardPlay, hostPlay, hostCall, played}
 use Rattle.replay.specs.PlayLaws.{call-says, call-keeps, call-size, call-cuts, delivers-most, heard-delivered}
 use Rattle.replay.specs.StateLaws.{playedAll, all-then, all-one}
 use Rattle.replay.specs.declared.ReplayState.{ReplayState}
-use Rattle.replay_block.specs.Hear.{nextBy, lengthOf, heardBy, isQuiet, HeardOn}
-use Rattle.replay_block.specs.declared.hear.Next.{Next}
-use Rattle.replay_block.specs.declared.hear.Next.the-variants.{Byte, Silence, Other}
+use Rattle.replay_block.specs.Hear.{standsAt, isQuiet, HeardOn}
 use Rattle.replay_block.specs.declared.hear.Heard.{Heard}
 
 -- Bytes with one symbol behind them.
@@ -81,108 +77,129 @@ one-more {t} rs r s e =
     let replies = then .replies ∙ ap (λ (p : Play). p .replies ++ playedAll (r ∷ []) (p .state) .replies) e ∙ one .replies in
     λ i. record { state = state i; frames = frames i; replies = replies i }
 
+-- Where a byte or a silence stands.
+module _ (block : List ℕ) (at : ℕ) where
+  -- A kind byte with so many bytes from it on.
+  front-stands : {kind size : ℕ} {more : List ℕ} → drop at block ≡ kind ∷ more → 0 < size → size ≤ length (kind ∷ more) → standsAt block at kind size ≡ true
+  unfolding standsAt
+  front-stands {kind} {size} {more} here some long =
+      let left : length block - at ≡ length (kind ∷ more) = sym (length-drop at block) ∙ ap length here in
+      let same : getD block at 0 ≡ kind = ap (λ (l : List ℕ). getD l 0 0) (sym (drop-cons block at 0 (omega arith)) ∙ here) in
+      rw (left, le-leb size (length (kind ∷ more)) long, same, eq-eqb kind kind refl)
+
+  -- What the test says of the bytes from the place on.
+  pub stands-front : {kind size : ℕ} → 0 < size → standsAt block at kind size ≡ true →
+      (at + size ≤ length block) × (drop at block ≡ kind ∷ drop (suc at) block)
+  unfolding standsAt
+  stands-front {kind} {size} some e =
+      let both = and-eq-true-iff (leb size (length block - at)) (eqb (getD block at 0) kind) .0 e in
+      let long : size ≤ length block - at = leb-true size (length block - at) (both .0) in
+      let same : getD block at 0 ≡ kind = eqb-true (getD block at 0) kind (both .1) in
+      (omega arith, drop-cons block at 0 (omega arith) ∙ ap (λ (k : ℕ). k ∷ drop (suc at) block) same)
+
+  pub byte-stands : standsAt block at 1 2 ≡ true → frontOf (drop at block) ≡ front.Good (records.Byte (getD block (at + 1) 0)) 2
+  byte-stands e =
+      let there = stands-front (omega arith) e in
+      let next : suc at ≡ at + 1 = omega arith in
+      ap frontOf
+      (there .1 ∙ ap (λ (l : List ℕ). 1 ∷ l) (drop-cons block (suc at) 0 (omega (arith, there .0)) ∙ ap (λ (k : ℕ). getD block k 0 ∷ drop (suc (suc at)) block) next))
+      ∙ case-front case.byte
+
+  pub silence-stands : standsAt block at 2 1 ≡ true → frontOf (drop at block) ≡ front.Good records.Silence 1
+  silence-stands e = ap frontOf (stands-front (omega arith) e .1) ∙ case-front case.silence
+
+  -- Where neither does, a good record is a call of the host.
+  pub host-stands : {r : TraceRecord} {n : ℕ} → standsAt block at 1 2 ≡ false → standsAt block at 2 1 ≡ false → frontOf (drop at block) ≡ front.Good r n →
+      (s : ReplayState) → played r s ≡ hostPlay (hostCall r s)
+  unfolding played
+  host-stands no-byte no-silence good = by refl (front-case good)
+    where
+      by : {rest : List ℕ} {r : TraceRecord} {n : ℕ} → drop at block ≡ rest → FrontCase rest (front.Good r n) → (s : ReplayState) → played r s ≡ hostPlay (hostCall r s)
+      by here case.byte s = absurd (false≢true (sym no-byte ∙ front-stands here (omega arith) (omega arith)))
+      by here case.silence s = absurd (false≢true (sym no-silence ∙ front-stands here (omega arith) (omega arith)))
+      by here (case.pulse low least most) s = refl
+      by here case.key-on s = refl
+      by here case.key-off s = refl
+      by here case.settle s = refl
+
 -- What was heard, of what the last call of the receiver returned, the place behind the last record and the number of records.
 abbrev pub heardSo : Received → ℕ → ℕ → Heard
 heardSo received at records = record { received = received; at = at; records = records }
 
--- The loop goes on: these records were read, with nothing delivered so far, so that they come to the receiver as it stands and leave the meter alone.
-pub record StillHears (block : List ℕ) (start : ℕ) (r : Receiver) (frames : List ℕ) (heard : Heard) : Type 0 where
+-- These records were read, with nothing delivered so far, so that they come to the receiver as it stands and leave the meter alone.
+pub record StillHears (block : List ℕ) (start : ℕ) (r : Receiver) (frames : List ℕ) (received : Received) (at : ℕ) : Type 0 where
   pub read : List TraceRecord
-  pub reads : ReadsAs (drop start block) read (drop (heard .at) block)
-  pub from : start + heard .records ≤ heard .at
-  pub within-block : heard .at ≤ length block
-  pub count : heard .records ≡ length read
+  pub reads : ReadsAs (drop start block) read (drop at block)
+  pub from : at ≡ start + 2 * length read
+  pub within-block : at ≤ length block
   pub room : 212 ≤ length frames
-  pub in-range : withinRange (heard .received .receiver) ≡ true
-  pub plays : (m : Meter) (energies : Energies) → playedAll read (stateOf r m energies) ≡ hostPlay (stateOf (heard .received .receiver) m energies)
-  pub spent : 2 * (heard .received .receiver .count) + start ≤ 2 * (r .count) + heard .at
+  pub answer : received .answer ≡ Delivered 0 0
+  pub in-range : withinRange (received .receiver) ≡ true
+  pub plays : (m : Meter) (energies : Energies) → playedAll read (stateOf r m energies) ≡ hostPlay (stateOf (received .receiver) m energies)
+  pub spent : 2 * (received .receiver .count) + start ≤ 2 * (r .count) + at
 
 -- What the loop has come to, by whether it goes on.
-pub record Hearing (going : Bool) (block : List ℕ) (start : ℕ) (r : Receiver) (frames : List ℕ) (heard : Heard) : Type 0 where
-  pub goes : going ≡ true → StillHears block start r frames heard
-  pub ends : going ≡ false → HeardOn block start r frames heard
+pub record Hearing (going : Bool) (block : List ℕ) (start : ℕ) (r : Receiver) (frames : List ℕ) (received : Received) (at : ℕ) : Type 0 where
+  pub goes : going ≡ true → StillHears block start r frames received at
+  pub ends : going ≡ false → HeardOn block start r frames (heardSo received at ((at - start) / 2))
 
--- The start: nothing read.
-pub hearing-start : {block : List ℕ} {start : ℕ} {frames : List ℕ} (received : Received) → withinRange (received .receiver) ≡ true → 212 ≤ length frames →
-    start ≤ length block → Hearing true block start (received .receiver) frames (heardSo received start 0)
+-- Nothing is read yet.
+pub still-start : {block : List ℕ} {start : ℕ} {frames : List ℕ} (r : Receiver) → withinRange r ≡ true → 212 ≤ length frames → start ≤ length block →
+    StillHears block start r frames (record { receiver = r; answer = Delivered 0 0 }) start
 unfolding playedAll
-hearing-start received within room inside =
+still-start r within room inside =
     record {
-      goes = λ _.
-          record {
-            read = [];
-            reads = none;
-            from = omega arith;
-            within-block = inside;
-            count = refl;
-            room = room;
-            in-range = within;
-            plays = λ m energies. refl;
-            spent = omega arith;
-          };
-      ends = λ e. absurd (false≢true (sym e));
+      read = [];
+      reads = none;
+      from = omega arith;
+      within-block = inside;
+      room = room;
+      answer = refl;
+      in-range = within;
+      plays = λ m energies. refl;
+      spent = omega arith;
     }
 
--- What a byte or a silence that is brought says of the front.
-abbrev Stands : List ℕ → Next → Type 0
-Stands rest (Byte b) = frontOf rest ≡ front.Good (records.Byte b) 2
-Stands rest Silence = frontOf rest ≡ front.Good records.Silence 1
-Stands rest Other = Unit
-
-stands : (rest : List ℕ) (n : Next) → n ≡ nextBy (frontOf rest) → Stands rest n
-stands rest n e = subst (Stands rest) (sym e) (by (front-case refl) refl)
-  where
-    by : {rest : List ℕ} {f : Front} → FrontCase rest f → frontOf rest ≡ f → Stands rest (nextBy f)
-    by case.ended e = tt
-    by (case.no-kind other) e = tt
-    by (case.cut-off short) e = tt
-    by (case.bad-field bad) e = tt
-    by case.byte e = e
-    by case.silence e = e
-    by (case.pulse low least most) e = tt
-    by case.key-on e = tt
-    by case.key-off e = tt
-    by case.settle e = tt
+-- The loop while it goes on.
+pub still-going : {block : List ℕ} {start at : ℕ} {r : Receiver} {frames : List ℕ} {received : Received} → StillHears block start r frames received at →
+    Hearing true block start r frames received at
+still-going h = record { goes = λ _. h; ends = λ e. absurd (false≢true (sym e)) }
 
 -- A turn at the place where the loop stands.
-module _ {block : List ℕ} {start : ℕ} {r : Receiver} {frames : List ℕ} {heard : Heard} (h : StillHears block start r frames heard) where
-  -- Nothing for the receiver stands there: all stays as it is.
-  hears-none : {received : Received} {left : List ℕ} → nextBy (frontOf (drop (heard .at) block)) ≡ Other →
-      outcome received left ≡ heardBy Other (heard .received .receiver) frames →
-      HeardOn block start r left (heardSo received (heard .at) (heard .records))
+module _ {block : List ℕ} {start at : ℕ} {r : Receiver} {frames : List ℕ} {before : Received} (h : StillHears block start r frames before at) where
+  -- No byte stands there: all stays as it is.
+  pub hears-none : standsAt block at 1 2 ≡ false → HeardOn block start r frames (heardSo before at ((at - start) / 2))
   unfolding meterAfter repliesTo cutFrom
-  hears-none {received} {left} other e =
-      let answer : received .answer ≡ Delivered 0 0 = ap (λ (o : Outcome Received). o .answer .answer) e in
-      let same : received .receiver ≡ heard .received .receiver = ap (λ (o : Outcome Received). o .answer .receiver) e in
+  hears-none no-byte =
       record {
         read = h .read;
         reads = h .reads;
-        from = omega arith;
+        from = omega (arith, h .from);
         within-block = h .within-block;
-        count = h .count;
+        count = omega (arith, h .from);
         bytes = 0;
         frame-count = 0;
-        answer = answer;
+        answer = h .answer;
         cuts = refl;
         size = omega arith;
-        in-range = rw same (h .in-range);
-        plays = λ m energies. rw (answer, same) (h .plays m energies);
-        spent = rw same (omega arith);
-        stops = λ back. subst (λ (at : ℕ). nextBy (frontOf (drop at block)) ≡ Other) back other;
+        in-range = h .in-range;
+        plays = λ m energies. rw (h .answer) (h .plays m energies);
+        spent = omega (arith, h .spent);
+        stops = λ back. subst (λ (k : ℕ). standsAt block k 1 2 ≡ false) back no-byte;
       }
-
-  -- A good record that stands there ends within the block.
-  within : {good-record : TraceRecord} {n : ℕ} → frontOf (drop (heard .at) block) ≡ front.Good good-record n → heard .at + n ≤ length block
-  within good = omega (arith, good-within (drop (heard .at) block) good, length-drop (heard .at) block)
 
   -- A record that is a symbol for the receiver stands there.
   module _ {symbol-record : TraceRecord} {n : ℕ} {received : Received} {left : List ℕ} (x : Symbol)
-      (good : frontOf (drop (heard .at) block) ≡ front.Good symbol-record n) (is-heard : (s : ReplayState) → played symbol-record s ≡ heardPlay x s)
-      (long : 2 * bytesIn (x ∷ []) ≤ n) (e : outcome received left ≡ called x (heard .received .receiver) frames) where
+      (good : frontOf (drop at block) ≡ front.Good symbol-record n) (is-heard : (s : ReplayState) → played symbol-record s ≡ heardPlay x s)
+      (long : 2 * bytesIn (x ∷ []) ≤ n) (e : outcome received left ≡ called x (before .receiver) frames) where
+    -- It ends within the block.
+    within : at + n ≤ length block
+    within = omega (arith, good-within (drop at block) good, length-drop at block)
+
     -- What has been heard with it.
-    hears-symbol : HeardOn block start r left (heardSo received (heard .at + n) (heard .records + 1))
-    hears-symbol =
-        let receiver = heard .received .receiver in
+    pub hears-symbol : (k : ℕ) → k ≡ length (h .read) + 1 → HeardOn block start r left (heardSo received (at + n) k)
+    hears-symbol k count =
+        let receiver = before .receiver in
         let says = call-says x receiver frames (h .in-range) (h .room) e in
         let keeps = call-keeps x receiver frames (h .in-range) (h .room) e in
         let cuts = call-cuts x receiver frames (h .in-range) (h .room) e in
@@ -190,9 +207,9 @@ module _ {block : List ℕ} {start : ℕ} {r : Receiver} {frames : List ℕ} {he
         record {
           read = h .read ++ (symbol-record ∷ []);
           reads = rw drop-drop at (reads-one (h .reads) good);
-          from = omega arith;
-          within-block = within good;
-          count = rw (length-append, h .count);
+          from = omega (arith, h .from);
+          within-block = within;
+          count = rw (length-append, count);
           bytes = _;
           frame-count = _;
           answer = says;
@@ -202,80 +219,45 @@ module _ {block : List ℕ} {start : ℕ} {r : Receiver} {frames : List ℕ} {he
           plays = λ m energies.
               one-more (h .read) symbol-record (stateOf r m energies) (h .plays m energies) ∙ is-heard _
               ∙ sym (heard-delivered x receiver frames (h .in-range) (h .room) e m energies);
-          spent = rw keeps (omega (arith, call-spent receiver x));
-          stops = λ back. absurd (omega (arith, good-size (drop (heard .at) block) good));
+          spent = rw keeps (omega (arith, call-spent receiver x, h .spent));
+          stops = λ back. absurd (omega (arith, good-size (drop at block) good, h .from));
         }
 
+  -- A byte stands there.
+  module _ {received : Received} {left : List ℕ} (there : standsAt block at 1 2 ≡ true)
+      (e : outcome received left ≡ called (symbol.byte (getD block (at + 1) 0)) (before .receiver) frames) where
+    byte-heard : HeardOn block start r left (heardSo received (at + 2) ((at + 2 - start) / 2))
+    unfolding played bytesIn
+    byte-heard = hears-symbol (symbol.byte _) (byte-stands block at there) (λ s. refl) (omega arith) e _ (omega (arith, h .from))
+
     -- Where nothing was delivered, the loop goes on.
-    goes-on : isQuiet (received .answer) ≡ true → StillHears block start r left (heardSo received (heard .at + n) (heard .records + 1))
+    byte-still : isQuiet (received .answer) ≡ true → StillHears block start r left received (at + 2)
     unfolding meterAfter repliesTo cutFrom
-    goes-on quiet =
-        let d = hears-symbol in
+    byte-still quiet =
+        let d = byte-heard in
         let nothing : d .bytes ≡ 0 = eqb-true (d .bytes) 0 (sym (ap isQuiet (d .answer)) ∙ quiet) in
-        let answer : received .answer ≡ Delivered 0 (d .frame-count) = d .answer ∙ ap (λ (n : ℕ). Delivered n (d .frame-count)) nothing in
+        let none-cut : d .frame-count ≡ 0 = d .cuts ∙ ap (λ (n : ℕ). length (cut (take n left))) nothing in
+        let answer : received .answer ≡ Delivered 0 0 = d .answer ∙ (λ i. Delivered (nothing i) (none-cut i)) in
         record {
           read = d .read;
           reads = d .reads;
-          from = omega (arith, good-size (drop (heard .at) block) good);
-          within-block = within good;
-          count = d .count;
-          room = omega (arith, call-size x (heard .received .receiver) frames (h .in-range) (h .room) e);
+          from = omega (arith, h .from, d .count, d .from);
+          within-block = d .within-block;
+          room = omega (arith, call-size (symbol.byte (getD block (at + 1) 0)) (before .receiver) frames (h .in-range) (h .room) e, h .room);
+          answer = answer;
           in-range = d .in-range;
           plays = λ m energies. d .plays m energies ∙ rw answer;
-          spent = omega arith;
+          spent = omega (arith, d .spent);
         }
 
     -- The turn, either way.
-    hears-turn : Hearing (isQuiet (received .answer)) block start r left (heardSo received (heard .at + n) (heard .records + 1))
-    hears-turn = record { goes = goes-on; ends = λ _. hears-symbol }
+    pub hears-byte : Hearing (isQuiet (received .answer)) block start r left received (at + 2)
+    hears-byte = record { goes = byte-still; ends = λ _. byte-heard }
 
-  -- What stands there for the receiver ends within the block.
-  pub turn-within : (n : Next) → n ≡ nextBy (frontOf (drop (heard .at) block)) → heard .at + lengthOf n ≤ length block
-  turn-within (Byte b) there = within (stands _ (Byte b) there)
-  turn-within Silence there = within (stands _ Silence there)
-  turn-within Other there = omega arith
-
-  -- The loop after a turn.
-  module _ {received : Received} {left : List ℕ} where
-    -- Something for the receiver stood there.
-    pub turn-hears : (n : Next) → n ≡ nextBy (frontOf (drop (heard .at) block)) →
-        outcome received left ≡ heardBy n (heard .received .receiver) frames → 0 < lengthOf n →
-        Hearing (ltb 0 (lengthOf n) && isQuiet (received .answer)) block start r left
-        (heardSo received (heard .at + lengthOf n) (heard .records + 1))
-    unfolding played bytesIn
-    turn-hears (Byte b) there e some = hears-turn (symbol.byte b) (stands _ (Byte b) there) (λ s. refl) (omega arith) e
-    turn-hears Silence there e some = hears-turn symbol.silence (stands _ Silence there) (λ s. refl) (omega arith) e
-    turn-hears Other there e some = absurd (omega arith)
-
-    -- Nothing did.
-    pub turn-ends : (n : Next) → n ≡ nextBy (frontOf (drop (heard .at) block)) →
-        outcome received left ≡ heardBy n (heard .received .receiver) frames → lengthOf n ≤ 0 →
-        Hearing (ltb 0 (lengthOf n) && isQuiet (received .answer)) block start r left
-        (heardSo received (heard .at + lengthOf n) (heard .records))
-    turn-ends (Byte b) there e no-bytes = absurd (omega arith)
-    turn-ends Silence there e no-bytes = absurd (omega arith)
-    turn-ends Other there e no-bytes =
-        let same : heard .at ≡ heard .at + 0 = omega arith in
-        record {
-          goes = λ e. absurd (false≢true e);
-          ends = λ _.
-              subst (λ (at : ℕ). HeardOn block start r left (heardSo received at (heard .records))) same (hears-none (sym there) e);
-        }
-
--- How many turns are left at most: one for each byte left, and one while the loop goes on.
-unfoldable pub turnsLeft : List ℕ → ℕ → Bool → ℕ
-turnsLeft block at going = (length block - at) + pick going 1 0
-
--- A turn leaves fewer.
-pub turn-less : {going : Bool} (block : List ℕ) (at step : ℕ) (quiet : Bool) → going ≡ true → at + step ≤ length block →
-    turnsLeft block (at + step) (ltb 0 step && quiet) < turnsLeft block at going
-unfolding turnsLeft
-turn-less block at step quiet e inside = rw e (by step inside)
-  where
-    most : (t : Bool) → pick t 1 0 ≤ 1
-    most true = omega arith
-    most false = omega arith
-
-    by : (step : ℕ) → at + step ≤ length block → (length block - (at + step)) + pick (ltb 0 step && quiet) 1 0 < (length block - at) + 1
-    by zero inside = omega arith
-    by (suc k) inside = omega (arith, most (ltb 0 (suc k) && quiet))
+-- A silence that stands at a place.
+pub hears-silence : {received : Received} {left : List ℕ} (block frames : List ℕ) (at : ℕ) (r : Receiver) → withinRange r ≡ true → 212 ≤ length frames →
+    standsAt block at 2 1 ≡ true → outcome received left ≡ called symbol.silence r frames → HeardOn block at r left (heardSo received (at + 1) 1)
+unfolding played bytesIn
+hears-silence block frames at r in-range room there e =
+    let h = still-start {block = block} {start = at} {frames = frames} r in-range room (omega (arith, stands-front block at (omega arith) there .0)) in
+    hears-symbol h symbol.silence (silence-stands block at there) (λ s. refl) (omega arith) e 1 (omega (arith, h .from))

@@ -43,9 +43,8 @@ use Rattle.replay_frames.specs.Putting.{repliesTo}
 use Rattle.replay_frames.specs.PuttingLaws.{after-sized, after-within, all-text}
 use Rattle.replay_frames.specs.declared.FramesPut.{FramesPut}
 use Rattle.replay.specs.PlayLaws.{Puts}
-use Rattle.replay_block.specs.Hear.{nextOf, HeardOn}
+use Rattle.replay_block.specs.Hear.{HeardOn}
 use Rattle.replay_block.specs.declared.hear.Heard.{Heard}
-use Rattle.replay_block.specs.declared.hear.Next.the-variants.{Other}
 use Rattle.replay_block.specs.Run.{mostText, NumbersFit, Ready, Goes, Turns, QuietTurn}
 use Rattle.replay_block.specs.declared.Session.{Session}
 use Rattle.replay_block.specs.declared.run.Run.{Run}
@@ -148,15 +147,6 @@ pub went-fits : (s : Session) (state : ReplayState) (a b c d : ℕ) → NumbersF
 unfolding wentBy counted
 went-fits s state a b c d = record { place = omega arith; records = omega arith; frames = omega arith; replies = omega arith }
 
--- A record that is not for the receiver is a call of the host.
-host-played : (r : TraceRecord) (s : ReplayState) → nextOf r ≡ Other → played r s ≡ hostPlay (hostCall r s)
-unfolding played
-host-played (records.Byte b) s e = let z : _≡_ {A = ℕ} 0 1 = cc in absurd (omega arith)
-host-played records.Silence s e = let z : _≡_ {A = ℕ} 0 1 = cc in absurd (omega arith)
-host-played (records.Pulse direction rate amount) s e = refl
-host-played (records.Key on) s e = refl
-host-played records.Settle s e = refl
-
 -- A call of the host leaves the receiver as it was, and the meter within its ranges.
 record HostKeeps (s after : ReplayState) : Type 0 where
   receiver : after .receiver ≡ s .receiver
@@ -194,15 +184,16 @@ host-keeps r s within sized = by r
     by records.Settle = record { receiver = refl; within = again _ _ (kept calls.settle); sized = sized }
 
 -- A call of the host.
-pub host-goes : {r : TraceRecord} {n : ℕ} {block : List ℕ} {run : Run} → frontOf (drop (run .at) block) ≡ front.Good r n → nextOf r ≡ Other →
+pub host-goes : {r : TraceRecord} {n : ℕ} {block : List ℕ} {run : Run} → frontOf (drop (run .at) block) ≡ front.Good r n →
+    ((s : ReplayState) → played r s ≡ hostPlay (hostCall r s)) →
     QuietTurn block run (record { session = wentBy (run .session) (hostCall r (run .session .state)) n 1 0 0; at = run .at + n; text = run .text })
 unfolding linesOf wentBy
-host-goes {r} {n} {block} {run} there other memory ready =
+host-goes {r} {n} {block} {run} there of-host memory ready =
     let s = run .session .state in
     let fits : n ≤ length (drop (run .at) block) = good-within (drop (run .at) block) there in
     let some = good-size (drop (run .at) block) there in
     let one = all-one r s in
-    let quiet = host-played r s other in
+    let quiet = of-host s in
     let state : playedAll (r ∷ []) s .state ≡ hostCall r s = one .state ∙ ap (λ (p : Play). p .state) quiet in
     let frames : playedAll (r ∷ []) s .frames ≡ [] = one .frames ∙ ap (λ (p : Play). p .frames) quiet in
     let replies : playedAll (r ∷ []) s .replies ≡ [] = one .replies ∙ ap (λ (p : Play). p .replies) quiet in

@@ -1,10 +1,10 @@
 -- By what stands at the place: no good record, and nothing is played; or a call of the host.
-use mathlib.Core.Path.{sym, ap, _∙_}
+use mathlib.Core.Path.{sym, _∙_}
 use native.Mathlib.Omega.{arith}
 use borrow.Author.Needs.{needs}
 use lib.ListN.{drop, length-drop}
 use Rattle.trace.specs.TraceLaws.{good-within}
-use Rattle.replay_block.specs.Hear.{nextBy}
+use Rattle.replay_block.specs.HearLaws.{host-stands}
 use Rattle.replay_block.specs.RunLaws.{host-goes, none-turns, ended-stops, refused-stops}
 use Rattle.replay_block.proofs.run.host_turn.Statement.{statement}
 use Rattle.replay_block.proofs.run.host_turn.Tie as tie
@@ -34,7 +34,7 @@ returns-3 c =
     let m = f .before .before in
     let start = m .before .before in
     let there = sym (m .record-at .ensures) ∙ f .front .given .1 in
-    rw (c .went-on .ensures, h .host-call .ensures) (host-goes there (sym (ap nextBy there) ∙ start .pre))
+    rw (c .went-on .ensures, h .host-call .ensures) (host-goes there (host-stands _ _ (start .pre .0) (start .pre .1) there))
 
 pub host-turn-spec : {M : Type 1} → statement M
 host-turn-spec =
