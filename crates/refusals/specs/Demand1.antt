@@ -71,6 +71,7 @@ use Rattle.replay_block.specs.BlockWords.{blockPlayedSaid, CannotPlay, play-ref
 use Rattle.replay_block.specs.declared.Session.{Session}
 use Rattle.replay_text.specs.Texts as texts
 use Rattle.replay_text.specs.Said as said
+use Rattle.replay_text.specs.declared.Message.{Message}
 use Rattle.exchange.specs.Exchange.{Memories}
 use Rattle.exchange.specs.ExchangeTerms.{Typed}
 use Rattle.exchange.specs.Said.{ExchangeAnswers, exchange-answers}
@@ -151,8 +152,9 @@ pub record RefusalsChangeNothing : Type 0 where
       → let o = blockReplayed kept read s buffer text in
       Refuses {S = Session × List ℕ × List ℕ} (blockPlayedSaid (o .answer .answer)) (CannotPlay kept read s buffer text) (s, buffer, text) (o .answer .session, o .buffer, o .text)
   -- What the replay program says on standard error.
-  pub write-text : (written m : List ℕ)
-      → let o = texts.writing written m in Refuses (said.writtenSaid (o .answer)) (length m < length written) m (o .memory)
+  pub write-message : (message : Message) (m : List ℕ)
+      → let o = texts.writing (texts.messageText message) m in
+      Refuses (said.writtenSaid (o .answer)) (length m < length (texts.messageText message)) m (o .memory)
   -- An exchange: a refusal, a silence, and what the reader makes of a reply.
   pub exchange : (request : Request) (m : Meter) (forward reverse : Rows) (lent : Memories) → Typed request → MeterSized m
       → ExchangeAnswers request m forward reverse lent
@@ -186,6 +188,6 @@ demand-1 =
       start-replay = start-refused;
       step-replay = replayed.step-refuses;
       play-block = play-refuses;
-      write-text = said.writing-refuses;
+      write-message = λ message. said.writing-refuses (texts.messageText message);
       exchange = exchange-answers;
     }

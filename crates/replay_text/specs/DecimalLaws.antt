@@ -2,32 +2,18 @@
 use Prim.Native.Nat.{ℕ, zero, suc, _+_, _-_, _*_, _/_, _%_, _^_, _≤_, _<_}
 use mathlib.Core.Path.{_≡_, refl, _∙_}
 use mathlib.Core.List.{List, [], _∷_, _++_}
-use mathlib.Core.Bool.{Bool, true, false, and-eq-true-iff}
-use mathlib.Core.Logic.{_↔_}
+use mathlib.Core.Bool.{Bool, true, false}
 use native.Mathlib.Nat.{pow-succ', pow-le-pow-right, not-suc-le-zero}
 use native.Mathlib.Omega.{arith}
 use lib.ListN.{length, getD, length-append}
 use lib.Dec.{leb, ltb}
-use borrow.Author.Tests.{lt-ltb, le-ltb, ltb-true, ltb-false, le-leb, leb-true, leb-false}
+use borrow.Author.Tests.{lt-ltb, le-ltb, ltb-true, ltb-false, leb-true, leb-false}
 use Rattle.io.specs.Digits.{digits, Fewest}
 use Rattle.laws.specs.All.{AllOf}
 use Rattle.laws.specs.AllLaws.{all-append}
 use Rattle.laws.specs.TestLaws.{pick-cases}
-use Rattle.replay_text.specs.Decimal.{isDigit, worth, decimalWithin, decimal, spelledFrom, spelled}
-
--- A byte is a digit where it is 48 to 57.
-abbrev pub IsDigit : ℕ → Type 0
-IsDigit b = (48 ≤ b) × (b ≤ 57)
-
--- The test says so.
-pub digit-iff : (b : ℕ) → (isDigit b ≡ true) ↔ IsDigit b
-unfolding isDigit
-digit-iff b = (
-  λ h.
-      let both = and-eq-true-iff (leb 48 b) (leb b 57) .0 h in
-      (leb-true 48 b (both .0), leb-true b 57 (both .1)),
-  λ h. rw (le-leb 48 b (h .0), le-leb b 57 (h .1)),
-)
+use Rattle.replay_address.specs.Digits.{IsDigit, worth, spelledFrom, spelled}
+use Rattle.replay_text.specs.Decimal.{decimalWithin, decimal}
 
 -- What holds of both ways to write one digit more holds of the digits.
 module _ (P : ℕ → List ℕ → Type 0)

@@ -1,7 +1,5 @@
 pub mod Decimal
 pub mod DecimalLaws
-pub mod Address
-pub mod AddressLaws
 pub mod Texts
 pub mod TextLaws
 pub mod TextWords

@@ -1,20 +1,26 @@
--- The lines on standard error in words: the numbers that stand in them are these, in this order, and each is one line; and worked lines.
+-- What is said in words: each message is one line, and a reason one more before how the program is called; the numbers that stand in them are these,
+-- in this order; and worked lines.
 use Prim.Native.Nat.{ℕ, _+_, _*_, _<_}
 use mathlib.Core.Path.{_≡_, refl, ap, _∙_}
 use mathlib.Core.List.{List, [], _∷_, _++_, append-assoc}
 use mathlib.Core.Bool.{Bool, true, false, _&&_, not, false≢true}
 use native.Mathlib.Nat.{not-suc-le-zero}
 use native.Mathlib.Omega.{arith}
-use lib.ListN.{length}
+use lib.ListN.{length, take}
 use lib.Dec.{eqb}
 use borrow.Author.Tests.{ne-eqb}
 use Rattle.laws.specs.All.{allOf, AllOf}
 use Rattle.laws.specs.Test.{pick}
 use Rattle.laws.specs.TestLaws.{pick-cases}
 use Rattle.frame.specs.Refusals.{badRecord, cutOff}
-use Rattle.replay_text.specs.Decimal.{isDigit, worth, decimal, decimalWithin, spelled, spelledFrom}
-use Rattle.replay_text.specs.DecimalLaws.{IsDigit, digit-iff, decimal-digits, decimal-spelled}
-use Rattle.replay_text.specs.Texts.{quoted, labelled, meaning, refusedText, countsText}
+use Rattle.replay_address.specs.Digits.{isDigit, worth, spelled, spelledFrom, IsDigit, digit-iff}
+use Rattle.replay_text.specs.Decimal.{decimal, decimalWithin}
+use Rattle.replay_text.specs.DecimalLaws.{decimal-digits, decimal-spelled}
+use Rattle.replay_text.specs.Texts.{quoted, labelled, meaning, refusedText, countsText, usage, reasonText, usageText, messageText}
+use Rattle.replay_text.specs.declared.Message.{Message}
+use Rattle.replay_text.specs.declared.Message.the-variants.{BadRecord, Replayed, Usage}
+use Rattle.replay_text.specs.declared.Reason.{Reason}
+use Rattle.replay_text.specs.declared.Reason.the-variants.{Asked, NotOneArgument, BadAddress}
 
 -- Where a reading of a text stands: outside of every number, or behind digits that spell a number.
 data Reading : Type 0 where
@@ -166,19 +172,66 @@ meaning-behind refusal =
     P text = Behind text []
 
 -- The line of a refused record says the refusal's number, and then the place.
-pub refused-line : (refusal place : ℕ) → Line (refusedText refusal place) (refusal ∷ place ∷ [])
+refused-line : (refusal place : ℕ) → Line (refusedText refusal place) (refusal ∷ place ∷ [])
 unfolding refusedText allOf isPlain isDigit
 refused-line refusal place =
     let placed = labelled-behind (quoted " at place ") refl place (meaning-behind refusal) (omega arith) in
     rw append-assoc (labelled-first (quoted "replay_trace: refused with ") refl refusal placed)
 
 -- The line at the end says the records, then the frames, then the replies.
-pub counts-line : (records frames replies : ℕ) → Line (countsText records frames replies) (records ∷ frames ∷ replies ∷ [])
+counts-line : (records frames replies : ℕ) → Line (countsText records frames replies) (records ∷ frames ∷ replies ∷ [])
 unfolding countsText allOf isPlain isDigit
 counts-line records frames replies =
     let third = labelled-behind (quoted ", replies ") refl replies newline-behind (omega arith) in
     let second = labelled-behind (quoted ", frames put to the meter ") refl frames third (omega arith) in
     simp append-assoc (labelled-first (quoted "replay_trace: records ") refl records second)
+
+-- A line without a number.
+plain-line : (label : List ℕ) → Plain label → Line (label ++ (10 ∷ [])) []
+unfolding isOneLine numbersIn numbersFrom isDigit
+plain-line label plain = record { one = label-line label (10 ∷ []) plain; says = label-read label (10 ∷ []) plain }
+
+-- Why it is said how the program is called: nothing where that was asked, else one line.
+abbrev pub IsReason : Reason → List ℕ → Type 0
+IsReason Asked why = why ≡ []
+IsReason NotOneArgument why = Line why []
+IsReason BadAddress why = Line why []
+
+-- How the program is called, in one line behind the reason.
+pub record SaysHow (reason : Reason) (text : List ℕ) : Type 0 where
+  pub why : List ℕ
+  pub how : List ℕ
+  pub both : text ≡ why ++ how
+  pub is-reason : IsReason reason why
+  pub line : Line how []
+  pub begins : take 27 how ≡ quoted "usage: replay_trace ADDRESS"
+
+-- What a message says: of a refused record the refusal's number and the place; at the end the records, the frames and the replies; else how the program is
+-- called.
+abbrev pub Says : Message → List ℕ → Type 0
+Says (BadRecord refusal place) text = Line text (refusal ∷ place ∷ [])
+Says (Replayed records frames replies) text = Line text (records ∷ frames ∷ replies ∷ [])
+Says (Usage reason) text = SaysHow reason text
+
+-- Every message.
+pub message-says : (message : Message) → Says message (messageText message)
+unfolding messageText usageText reasonText usage allOf isPlain isDigit
+message-says (BadRecord refusal place) = refused-line refusal place
+message-says (Replayed records frames replies) = counts-line records frames replies
+message-says (Usage reason) =
+    record {
+      why = reasonText reason;
+      how = usage;
+      both = refl;
+      is-reason = is reason;
+      line = plain-line (quoted "usage: replay_trace ADDRESS < TRACE   plays a trace to a fresh meter of this address, twelve digits, and lists its replies") refl;
+      begins = refl;
+    }
+  where
+    is : (reason : Reason) → IsReason reason (reasonText reason)
+    is Asked = refl
+    is NotOneArgument = plain-line (quoted "replay_trace: one argument is needed, the address of the meter") refl
+    is BadAddress = plain-line (quoted "replay_trace: the address has to be twelve digits, and not twelve nines") refl
 
 -- A record of an unknown kind at the beginning; a trace that ends inside a record; the end of a replay.
 first-refused : refusedText 9 0 ≡ quoted "replay_trace: refused with 9 at place 0: an unknown kind of record, or a field out of its range\n"
@@ -192,3 +245,12 @@ cut-off = refl
 three-counts : countsText 110 7 0 ≡ quoted "replay_trace: records 110, frames put to the meter 7, replies 0\n"
 unfolding countsText labelled decimal decimalWithin
 three-counts = refl
+
+-- A missing address, and a bad one.
+missing : take 63 (messageText (Usage NotOneArgument)) ≡ quoted "replay_trace: one argument is needed, the address of the meter\n"
+unfolding messageText usageText reasonText usage
+missing = refl
+
+bad : take 72 (messageText (Usage BadAddress)) ≡ quoted "replay_trace: the address has to be twelve digits, and not twelve nines\n"
+unfolding messageText usageText reasonText usage
+bad = refl

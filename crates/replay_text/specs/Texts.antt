@@ -9,6 +9,8 @@ use Rattle.laws.specs.Memory.{Outcome, outcome, over}
 use Rattle.laws.specs.Test.{pick}
 use Rattle.frame.specs.Refusals.{badRecord, cutOff}
 use Rattle.replay_text.specs.Decimal.{decimal}
+use Rattle.replay_text.specs.declared.Message.{Message}
+use Rattle.replay_text.specs.declared.Message.the-variants.{BadRecord, Replayed, Usage}
 use Rattle.replay_text.specs.declared.Reason.{Reason}
 use Rattle.replay_text.specs.declared.Reason.the-variants.{Asked, NotOneArgument, BadAddress}
 use Rattle.replay_text.specs.declared.Written.{Written}
@@ -54,3 +56,9 @@ reasonText BadAddress = quoted "replay_trace: the address has to be twelve digit
 
 unfoldable pub usageText : Reason → List ℕ
 usageText reason = reasonText reason ++ usage
+
+-- What is said, by what it is about.
+unfoldable pub messageText : Message → List ℕ
+messageText (BadRecord refusal place) = refusedText refusal place
+messageText (Replayed records frames replies) = countsText records frames replies
+messageText (Usage reason) = usageText reason

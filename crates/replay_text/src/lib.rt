@@ -1,5 +1,4 @@
-// The texts of the replay program of document 02, W1: the address that it is given, and what it writes on standard error.
-pub mod address;
+// What the replay program of document 02, W1, says on standard error, and how it says how it is called.
 mod put;
 
 use frame::refusal::BAD_RECORD;
@@ -12,9 +11,9 @@ ghost use mathlib.Core.List.{_++_};
 ghost use lib.ListN.{length, take};
 ghost use Rattle.laws.specs.Memory.{outcome};
 ghost use Rattle.laws.specs.Puts.{Puts};
-ghost use Rattle.replay_text.specs.Texts.{meaning, writing, refusedText, countsText, reasonText, usageText};
+ghost use Rattle.replay_text.specs.Texts.{meaning, writing, refusedText, countsText, reasonText, usageText, messageText};
 
-// The answer to the writing of a text; only `Length` leaves bytes in the output buffer.
+// The answer to the writing of a message; only `Length` leaves bytes in the output buffer.
 pub enum Written {
     // The text's length, its newlines among it.
     Length(usize),
@@ -32,19 +31,25 @@ pub enum Reason {
     BadAddress,
 }
 
+// What the program says.
+pub enum Message {
+    // A record is refused, by document 02's number, and begins at this place of the whole trace.
+    BadRecord {
+        refusal: u8,
+        place: u64,
+    },
+    // The trace has ended: how many records were played, how many frames put to the meter, and how many replies it gave.
+    Replayed {
+        records: u64,
+        frames: u64,
+        replies: u64,
+    },
+    // How the program is called, and before it why that is said.
+    Usage(Reason),
+}
+
 // The length of a buffer in which every text fits.
 const LINE: usize = 256;
-
-// Writes a text to the front of the output buffer.
-fn write(text: &[u8], out: &mut [u8]) -> Written
-    ensures { λ r. ⌜ outcome r (now (out .exit)) ≡ writing (now (text .entry)) (now (out .entry)) ⌝ }
-{
-    if out.len() < text.len() {
-        return Written::TooLittleMemory;
-    }
-    bytes::copy(text, out);
-    Written::Length(text.len())
-}
 
 // Puts what a refusal means, and the end of the line, behind the first `at` bytes of a line, and returns where it ends.
 fn put_meaning(refusal: u8, at: usize, line: &mut [u8]) -> usize
@@ -118,30 +123,31 @@ fn put_usage(reason: Reason, line: &mut [u8]) -> usize
     )
 }
 
-// Writes the line of a record that is refused: the refusal's number, the place of the record in the whole trace, and what the number
-// means.
-pub fn write_refused(refusal: u8, place: u64, out: &mut [u8]) -> Written
-    ensures { λ r. ⌜ outcome r (now (out .exit)) ≡ writing (refusedText refusal place) (now (out .entry)) ⌝ }
+// Puts what is said to the front of a buffer, and returns how many bytes it has.
+fn put_message(message: Message, line: &mut [u8]) -> usize
+    requires { ⌜ 256 ≤ length (now line) ⌝ }
+    ensures { λ r. ⌜ Puts (messageText message) r (now (line .entry)) (now (line .exit)) ⌝ }
 {
-    let mut line = [0u8; LINE];
-    let used = put_refused(refusal, place, &mut line);
-    write(&line[..used], out)
+    match message {
+        Message::BadRecord { refusal, place } => put_refused(refusal, place, line),
+        Message::Replayed {
+            records,
+            frames,
+            replies,
+        } => put_counts(records, frames, replies, line),
+        Message::Usage(reason) => put_usage(reason, line),
+    }
 }
 
-// Writes the line at the end: how many records were played, how many frames put to the meter, and how many replies it gave.
-pub fn write_counts(records: u64, frames: u64, replies: u64, out: &mut [u8]) -> Written
-    ensures { λ r. ⌜ outcome r (now (out .exit)) ≡ writing (countsText records frames replies) (now (out .entry)) ⌝ }
+// Writes what is said to the front of the output buffer, which stays as it was beyond it; a buffer that is shorter is left as it was.
+pub fn write_message(message: Message, out: &mut [u8]) -> Written
+    ensures { λ r. ⌜ outcome r (now (out .exit)) ≡ writing (messageText message) (now (out .entry)) ⌝ }
 {
     let mut line = [0u8; LINE];
-    let used = put_counts(records, frames, replies, &mut line);
-    write(&line[..used], out)
-}
-
-// Writes how the program is called, and before it why that is said.
-pub fn write_usage(reason: Reason, out: &mut [u8]) -> Written
-    ensures { λ r. ⌜ outcome r (now (out .exit)) ≡ writing (usageText reason) (now (out .entry)) ⌝ }
-{
-    let mut line = [0u8; LINE];
-    let used = put_usage(reason, &mut line);
-    write(&line[..used], out)
+    let used = put_message(message, &mut line);
+    if out.len() < used {
+        return Written::TooLittleMemory;
+    }
+    bytes::copy(&line[..used], out);
+    Written::Length(used)
 }

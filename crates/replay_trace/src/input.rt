@@ -64,7 +64,7 @@ fn play_read(
     let session = played.session;
     let answer = played.answer;
     match answer {
-        // This cannot come: the buffer and the text are long enough for a block, and the session is within its ranges from its beginning on.
+        // By `blocks-replayed` none comes: both memories are long enough for a block, and the session has gone on from its beginning.
         BlockAnswer::Refused(number) => {
             return stopped(session, Next::Refused(number));
         }

@@ -8,49 +8,38 @@ use input::Next;
 use libc::STDERR_FILENO;
 use libc::STDOUT_FILENO;
 use meter_counting::HostAnswer;
+use replay_address::read_address;
 use replay_block::Session;
+use replay_text::Message;
 use replay_text::Reason;
 use replay_text::Written;
-use replay_text::address::read_address;
 
 // The length of a message for standard error, in which every text fits.
 const MESSAGE: usize = 256;
 
-// Writes the text that stands at the front of a message. Every text fits in a message, so that there always is one.
-fn say(fd: i32, written: Written, message: &[u8]) {
+// Says a message. Every one fits, so that there always is a text.
+fn say(fd: i32, message: Message) {
+    let mut text = [0u8; MESSAGE];
+    let written = replay_text::write_message(message, &mut text);
     let Written::Length(length) = written else {
         return;
     };
-    if message.len() < length {
+    if MESSAGE < length {
         return;
     }
-    io::write_all(fd, &message[..length]);
-}
-
-// Says how the program is called, and why that is said.
-fn say_usage(fd: i32, reason: Reason) {
-    let mut message = [0u8; MESSAGE];
-    let written = replay_text::write_usage(reason, &mut message);
-    say(fd, written, &message);
-}
-
-// Says that a record is refused, and at which place of the whole trace it begins.
-fn say_refused(refusal: u8, place: u64) {
-    let mut message = [0u8; MESSAGE];
-    let written = replay_text::write_refused(refusal, place, &mut message);
-    say(STDERR_FILENO, written, &message);
+    io::write_all(fd, &text[..length]);
 }
 
 // Says how many records were played, how many frames put to the meter, and how many replies it gave.
 fn say_counts(session: Session) {
-    let mut message = [0u8; MESSAGE];
-    let written = replay_text::write_counts(
-        session.records,
-        session.frames,
-        session.replies,
-        &mut message,
+    say(
+        STDERR_FILENO,
+        Message::Replayed {
+            records: session.records,
+            frames: session.frames,
+            replies: session.replies,
+        },
     );
-    say(STDERR_FILENO, written, &message);
 }
 
 // Replays the trace on standard input, and says how it ended. A block and the bytes of a record kept before it, at most 6, are read and played
@@ -64,7 +53,13 @@ fn replay_input(session: Session) {
     match next {
         Next::More => {}
         Next::Ended => say_counts(last),
-        Next::Refused(refusal) => say_refused(refusal, last.place),
+        Next::Refused(refusal) => say(
+            STDERR_FILENO,
+            Message::BadRecord {
+                refusal,
+                place: last.place,
+            },
+        ),
         Next::Unread => os::fail(b"replay_trace: standard input"),
         Next::Unwritten => os::fail(b"replay_trace: standard output"),
     }
@@ -76,7 +71,7 @@ fn replay_with_argument() {
     let n = os::arg(1, &mut word);
     let read = read_address(&word[..n]);
     if !read.found {
-        say_usage(STDERR_FILENO, Reason::BadAddress);
+        say(STDERR_FILENO, Message::Usage(Reason::BadAddress));
         return;
     }
     let address = read.address;
@@ -84,7 +79,7 @@ fn replay_with_argument() {
     let answer = begun.answer;
     let session = begun.session;
     match answer {
-        HostAnswer::Refused(_) => say_usage(STDERR_FILENO, Reason::BadAddress),
+        HostAnswer::Refused(_) => say(STDERR_FILENO, Message::Usage(Reason::BadAddress)),
         HostAnswer::Done => replay_input(session),
     }
 }
@@ -92,11 +87,11 @@ fn replay_with_argument() {
 fn main() {
     let count = os::arg_count();
     if program_input::asks_for_help(count) {
-        say_usage(STDOUT_FILENO, Reason::Asked);
+        say(STDOUT_FILENO, Message::Usage(Reason::Asked));
         return;
     }
     if count != 2 {
-        say_usage(STDERR_FILENO, Reason::NotOneArgument);
+        say(STDERR_FILENO, Message::Usage(Reason::NotOneArgument));
         return;
     }
     replay_with_argument();

@@ -1,8 +1,8 @@
 -- Each half is below 16.
 use borrow.Author.Needs.{needs}
-use Rattle.replay_text.specs.Address.{pairOf}
-use Rattle.replay_text.proofs.address.pair.Statement.{statement}
-use Rattle.replay_text.proofs.address.pair.Tie as tie
+use Rattle.replay_address.specs.Address.{pairOf}
+use Rattle.replay_address.proofs.pair.Statement.{statement}
+use Rattle.replay_address.proofs.pair.Tie as tie
 
 returns : tie.Need-returns
 unfolding pairOf

@@ -6,8 +6,8 @@ use lib.ListN.{length, getD}
 use lib.Dec.{eqb}
 use Rattle.laws.specs.All.{allOf}
 use Rattle.laws.specs.Test.{pick}
-use Rattle.replay_text.specs.Decimal.{isDigit}
-use Rattle.replay_text.specs.declared.address.ReadAddress.{ReadAddress}
+use Rattle.replay_address.specs.Digits.{isDigit}
+use Rattle.replay_address.specs.declared.ReadAddress.{ReadAddress}
 
 -- Two digits as one byte, the first in the higher half: the number of a digit is the low half of its character.
 unfoldable pub pairOf : ℕ → ℕ → ℕ

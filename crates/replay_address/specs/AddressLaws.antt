@@ -13,10 +13,9 @@ use Rattle.laws.specs.All.{allOf, AllOf}
 use Rattle.laws.specs.AllLaws.{all-drop, all-iff}
 use Rattle.laws.specs.TestLaws.{pick-cases}
 use Rattle.item_decimal.specs.Decimal.{Decimal, digits, unpacked}
-use Rattle.replay_text.specs.Decimal.{isDigit, worth, spelled, spelledFrom}
-use Rattle.replay_text.specs.DecimalLaws.{IsDigit, digit-iff}
-use Rattle.replay_text.specs.declared.address.ReadAddress.{ReadAddress}
-use Rattle.replay_text.specs.Address.{pairOf, pairAt, addressBytes, isAddress, addressRead}
+use Rattle.replay_address.specs.Digits.{isDigit, worth, spelled, spelledFrom, IsDigit, digit-iff}
+use Rattle.replay_address.specs.declared.ReadAddress.{ReadAddress}
+use Rattle.replay_address.specs.Address.{pairOf, pairAt, addressBytes, isAddress, addressRead}
 
 -- Twelve bytes, each a digit.
 pub record TwelveDigits (text : List ℕ) : Type 0 where

@@ -1,8 +1,8 @@
 // The address that the replay program is given, read from its digits.
 ghost use mathlib.Core.Path.{_≡_};
 ghost use Rattle.laws.specs.All.{allOf};
-ghost use Rattle.replay_text.specs.Decimal.{isDigit};
-ghost use Rattle.replay_text.specs.Address.{pairOf, noAddress, addressRead};
+ghost use Rattle.replay_address.specs.Digits.{isDigit};
+ghost use Rattle.replay_address.specs.Address.{pairOf, noAddress, addressRead};
 
 // An address read from a text.
 pub struct ReadAddress {

@@ -2,9 +2,9 @@
 use mathlib.Core.Path.{sym, _∙_}
 use borrow.Author.Needs.{needs}
 use borrow.Author.Tests.{eq-eqb, ne-eqb, not-true, not-false}
-use Rattle.replay_text.specs.Address.{addressBytes, isAddress, addressRead}
-use Rattle.replay_text.proofs.address.read_address.Statement.{statement}
-use Rattle.replay_text.proofs.address.read_address.Tie as tie
+use Rattle.replay_address.specs.Address.{addressBytes, isAddress, addressRead}
+use Rattle.replay_address.proofs.read_address.Statement.{statement}
+use Rattle.replay_address.proofs.read_address.Tie as tie
 
 returns : tie.Need-returns
 unfolding addressRead isAddress

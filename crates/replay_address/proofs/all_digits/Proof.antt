@@ -3,9 +3,9 @@ use Prim.Native.Nat.{_-_}
 use borrow.Author.Needs.{needs}
 use lib.ListN.{length}
 use Rattle.laws.specs.Pass.{Passing, passing-start, passing-next, passing-end}
-use Rattle.replay_text.specs.Decimal.{isDigit}
-use Rattle.replay_text.proofs.address.all_digits.Statement.{statement}
-use Rattle.replay_text.proofs.address.all_digits.Tie as tie
+use Rattle.replay_address.specs.Digits.{isDigit}
+use Rattle.replay_address.proofs.all_digits.Statement.{statement}
+use Rattle.replay_address.proofs.all_digits.Tie as tie
 
 abbrev Inv-loop : tie.InvT-loop
 Inv-loop text all₀ i₀ all i = Passing isDigit text i all

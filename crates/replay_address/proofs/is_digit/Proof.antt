@@ -1,8 +1,8 @@
 -- The two tests are those of `isDigit`.
 use borrow.Author.Needs.{needs}
-use Rattle.replay_text.specs.Decimal.{isDigit}
-use Rattle.replay_text.proofs.address.is_digit.Statement.{statement}
-use Rattle.replay_text.proofs.address.is_digit.Tie as tie
+use Rattle.replay_address.specs.Digits.{isDigit}
+use Rattle.replay_address.proofs.is_digit.Statement.{statement}
+use Rattle.replay_address.proofs.is_digit.Tie as tie
 
 returns : tie.Need-returns
 unfolding isDigit
