@@ -1,8 +1,9 @@
 """Compares what the proved replay program and those in C come to, on the stored trace, on damaged traces and on each input,
-and prints for each program the instructions that callgrind counts in the whole run, for each byte of the trace and for each
-byte record, these beside the receiver's own, and the megabytes a second that it takes in. The first program is the proved
-one; one whose name has `metered` in it has a meter and has to write what the proved one writes, to the byte; the others have
-to count the same records and frames, and the pulses and settlements that the trace has."""
+and prints for each program the instructions that callgrind counts in the whole run, for each byte of a trace, for each byte
+record, these beside the receiver's own, and for each record in traces of one other kind, and the megabytes a second that it
+takes in. The first program is the proved one. One whose name has `metered` in it has a meter, and has to write what the
+proved one writes, to the byte; the others have to count the same records and frames, and the pulses and settlements that the
+trace has."""
 import os
 import random
 import re
@@ -17,10 +18,12 @@ ADDRESS = "129078563412"
 COMMANDS = [[program, ADDRESS] for program in PROGRAMS]
 LINES = ["mixed", "long", "random", "all-FE"]
 INPUTS = ["with-pulses", *LINES]
+KINDS = ["silence", "pulse", "key", "settle"]
 READERS = ["receive_line", "receive_line_in_place", "receive_line_by_value"]
 IDENTIFIERS = [0x00010000, 0x00020000, 0x0001FF00, 0x000100FF, 0x04000101, 0x04000102, 0x04000401]
 COUNTED_COPIES = 5
 TIMED_COPIES = 50
+ALONE = 100_000
 DAMAGED = 400
 BLOCK = 8192
 # Records at both edges of every range, and of kinds that there are not.
@@ -74,6 +77,18 @@ def read_request(identifier):
     return b"\xFE" * 4 + frame + bytes((sum(frame) % 256, 0x16))
 
 
+def by_chance(trace, kind, given):
+    """Adds a record of a kind: a pulse, a key record, a silence or a settlement."""
+    if kind == "pulse":
+        trace.pulse(given.randrange(2), given.randrange(1, 5), given.randrange(1 << 32))
+    elif kind == "key":
+        trace.key(given.randrange(2))
+    elif kind == "silence":
+        trace.silence()
+    else:
+        trace.settle()
+
+
 def trace_with_pulses():
     """The frames of the mixed line, one in four of them a read of the replayed meter instead, and between frames what a host
     does: a pulse behind every second, a silence behind one in four, the key behind one in 50, a settlement behind one in 200."""
@@ -83,14 +98,9 @@ def trace_with_pulses():
         end = at + 16 + line[at + 13]
         trace.hear(read_request(given.choice(IDENTIFIERS)) if given.randrange(4) == 0 else line[at:end])
         at = end
-        if given.randrange(2) == 0:
-            trace.pulse(given.randrange(2), given.randrange(1, 5), given.randrange(1 << 32))
-        if given.randrange(4) == 0:
-            trace.silence()
-        if given.randrange(50) == 0:
-            trace.key(given.randrange(2))
-        if given.randrange(200) == 0:
-            trace.settle()
+        for kind, one_in in [("pulse", 2), ("silence", 4), ("key", 50), ("settle", 200)]:
+            if given.randrange(one_in) == 0:
+                by_chance(trace, kind, given)
     return trace
 
 
@@ -108,13 +118,11 @@ def damaged(given):
     and a pulse; in one of two traces the end is cut off."""
     trace = Trace()
     for _ in range(given.randrange(100)):
-        given.choice([
-            lambda: trace.hear(read_request(given.choice(IDENTIFIERS))),
-            lambda: trace.pulse(given.randrange(2), given.randrange(1, 5), given.randrange(1 << 32)),
-            lambda: trace.key(given.randrange(2)),
-            trace.silence,
-            trace.settle,
-        ])()
+        kind = given.choice(["read", *KINDS])
+        if kind == "read":
+            trace.hear(read_request(given.choice(IDENTIFIERS)))
+        else:
+            by_chance(trace, kind, given)
     if given.randrange(2) == 0:
         trace.bytes += b"\2" * (BLOCK - given.randrange(16) - len(trace.bytes))
     trace.bytes += given.choice(EDGES)
@@ -192,6 +200,19 @@ def print_beside_receivers(a_byte_record):
         row(name, [f"{cell / cost:.2f}" for cell, cost in zip(cells[1:], own[reader])])
 
 
+def print_alone():
+    """For traces of records of one kind, the instructions a record."""
+    counted = []
+    for kind in KINDS:
+        given, trace = random.Random(645), Trace()
+        for _ in range(ALONE):
+            by_chance(trace, kind, given)
+        path = file_of(trace.bytes)
+        compare(f"records of the kind {kind}", path, [ALONE, trace.pulses, trace.settlements])
+        counted.append([instructions(command, path) / ALONE for command in COMMANDS])
+    print_figures("instructions a record of one kind", KINDS, PROGRAMS, list(zip(*counted)), "{:.0f}")
+
+
 def main():
     compare_stored()
     well, nines, tens = compare_damaged()
@@ -209,13 +230,14 @@ def main():
         a_byte_record.append([count / trace.byte_records for count in found])
         path = file_of(trace.bytes, TIMED_COPIES)
         speeds.append([TIMED_COPIES * len(trace.bytes) / 1e6 / best for best in best_times(COMMANDS, path)])
-        os.remove(path)
     counted, a_byte_record, speeds = [list(zip(*figures)) for figures in (counted, a_byte_record, speeds)]
     print_figures("instructions a trace byte", INPUTS, PROGRAMS, counted, "{:.2f}")
     print_ratios(PROGRAMS, counted)
     print_figures("instructions a byte record", INPUTS, PROGRAMS, a_byte_record, "{:.1f}")
     print_beside_receivers(a_byte_record)
+    print_alone()
     print_figures("megabytes a second", INPUTS, PROGRAMS, speeds, "{:.0f}")
+    os.remove(os.path.join(FOLDER, "trace"))
 
 
 main()

@@ -69,17 +69,20 @@ static inline void hand_over(struct replay *replay, struct answer answer)
 /* Plays the byte records that so many bytes begin with; returns how many bytes these records have. */
 static size_t play_bytes(struct replay *replay, const uint8_t *bytes, size_t count)
 {
+    size_t at = 0;
+    for (; count - at > 1 && bytes[at] == BYTE; at += 2)
+        hand_over(replay, take_byte(&replay->heard.receiver, bytes[at + 1], handed_on, sizeof handed_on));
+    return at;
+}
+
+/* The same with a receiver by value: the loop carries what the last call returned. */
+static size_t play_bytes_by_value(struct replay *replay, const uint8_t *bytes, size_t count)
+{
     struct received heard = replay->heard;
     size_t at = 0;
     for (; count - at > 1 && bytes[at] == BYTE; at += 2) {
-        struct answer answer;
-        if (BY_VALUE) {
-            heard = after_byte(heard.receiver, bytes[at + 1], handed_on, sizeof handed_on);
-            answer = heard.answer;
-        } else {
-            answer = take_byte(&heard.receiver, bytes[at + 1], handed_on, sizeof handed_on);
-        }
-        hand_over(replay, answer);
+        heard = after_byte(heard.receiver, bytes[at + 1], handed_on, sizeof handed_on);
+        hand_over(replay, heard.answer);
     }
     replay->heard = heard;
     return at;
@@ -141,7 +144,7 @@ static unsigned play_block(struct replay *replay, const uint8_t *block, size_t c
     size_t at = 0;
     int length = 0;
     while (length >= 0 && at < count) {
-        size_t heard = play_bytes(replay, block + at, count - at);
+        size_t heard = (BY_VALUE ? play_bytes_by_value : play_bytes)(replay, block + at, count - at);
         at += heard;
         replay->records += heard / 2;
         if (at == count)
