@@ -62,11 +62,6 @@ HAND_BACK(in_place_clang)
      name##_judge_handed_back, \
      name##_exchange_handed_back}
 
-const uint8_t fresh_registers[REGISTERS] = {
-    0x06, 0x01, 0x01, 0x00, 0x00, 0x00, 0x00, 0x15, 0x01, 0x00, 0x00,
-    0x00, 0x00, 0x00, 0x00, 0x00, 0x01, 0x99, 0x99, 0x99, 0x99,
-};
-
 const struct implementation implementations[IMPLEMENTATIONS] = {
     BY_VALUE(call),         BY_VALUE(by_value_gcc),   BY_VALUE(by_value_clang), BY_VALUE(by_words_gcc),
     BY_VALUE(by_words_clang), IN_PLACE(in_place_gcc), IN_PLACE(in_place_clang),

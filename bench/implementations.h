@@ -20,7 +20,4 @@ struct implementation {
 enum { IMPLEMENTATIONS = 7 };
 extern const struct implementation implementations[IMPLEMENTATIONS];
 
-/* The registers of a fresh meter. */
-extern const uint8_t fresh_registers[REGISTERS];
-
 #endif

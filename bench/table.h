@@ -1,4 +1,5 @@
-/* What all the C code of both ends shares: controls, refusals, error bytes, and the table of identifiers. */
+/* What all the C code of both ends shares: controls, refusals, error bytes, fresh registers, and the table
+   of identifiers. */
 #ifndef TABLE_H
 #define TABLE_H
 
@@ -32,6 +33,12 @@ enum { OTHER_ERROR = 1, NO_SUCH_DATA = 2, NOT_AUTHORISED = 4 };
 
 /* The readings of a direction, and the largest. */
 enum { READINGS = ROWS * RATES, MOST_READING = 99999999 };
+
+/* The registers of a fresh meter. */
+static const uint8_t fresh_registers[REGISTERS] = {
+    0x06, 0x01, 0x01, 0x00, 0x00, 0x00, 0x00, 0x15, 0x01, 0x00, 0x00,
+    0x00, 0x00, 0x00, 0x00, 0x00, 0x01, 0x99, 0x99, 0x99, 0x99,
+};
 
 /* What an identifier names; what stands behind ADDRESS may be written. */
 enum kind { NOT_LISTED, FORWARD, REVERSE, ADDRESS, DATE, TIME, MINUTES, METER_NUMBER, SETTLEMENT_DAY };
