@@ -1,5 +1,5 @@
--- What a block brings for the receiver, heard as long as nothing is delivered.
-use Prim.Native.Nat.{ℕ, _+_, _-_, _*_, _≤_}
+-- Bytes and silences of a block heard one after the other, as long as nothing is delivered.
+use Prim.Native.Nat.{ℕ, _+_, _-_, _*_, _≤_, _<_}
 use mathlib.Core.Path.{_≡_}
 use mathlib.Core.Bool.{Bool, true, false, _&&_}
 use mathlib.Core.List.{List}
@@ -23,27 +23,36 @@ use Rattle.replay_block.specs.declared.hear.Heard.{Heard}
 unfoldable pub standsAt : List ℕ → ℕ → ℕ → ℕ → Bool
 standsAt block at kind size = leb size (length block - at) && eqb (getD block at 0) kind
 
+-- No byte and no silence stands at a place.
+pub record NoneStands (block : List ℕ) (at : ℕ) : Type 0 where
+  pub no-byte : standsAt block at 1 2 ≡ false
+  pub no-silence : standsAt block at 2 1 ≡ false
+
 -- Nothing was delivered.
 abbrev pub isQuiet : Answer → Bool
 isQuiet (Refused n) = false
 isQuiet (Delivered bytes count) = eqb bytes 0
 
+-- The receiver is within its range, the place within the block, and there is room for what a call delivers.
+pub record CanHear (block : List ℕ) (start : ℕ) (r : Receiver) (frames : List ℕ) : Type 0 where
+  pub in-range : withinRange r ≡ true
+  pub room : 212 ≤ length frames
+  pub within-block : start ≤ length block
+
 -- What was heard from a place of a block on: these records were read; whatever the meter and its readings, they come to what the last call of the
--- receiver delivered, put to the meter; the receiver is within its range, and what it keeps and delivers is no more than what it kept and heard.
+-- receiver delivered, put to the meter; what the receiver keeps and delivers is no more than what it kept and heard; and hearing can go on behind them.
 pub record HeardOn (block : List ℕ) (start : ℕ) (r : Receiver) (frames : List ℕ) (heard : Heard) : Type 0 where
   pub read : List TraceRecord
   pub reads : ReadsAs (drop start block) read (drop (heard .at) block)
-  pub from : start ≤ heard .at
-  pub within-block : heard .at ≤ length block
   pub count : heard .records ≡ length read
+  pub from : start + heard .records ≤ heard .at
   pub bytes : ℕ
   pub frame-count : ℕ
   pub answer : heard .received .answer ≡ Delivered bytes frame-count
+  pub later : 0 < bytes → 0 < heard .records
   pub cuts : frame-count ≡ length (cut (take bytes frames))
   pub size : bytes ≤ length frames
-  pub in-range : withinRange (heard .received .receiver) ≡ true
   pub plays : (m : Meter) (energies : Energies) →
       playedAll read (stateOf r m energies) ≡ deliveredPlay (heard .received .answer) (heard .received .receiver) m energies frames
   pub spent : 2 * (bytes + heard .received .receiver .count) + start ≤ 2 * (r .count) + heard .at
-  -- where nothing was heard, no byte stands there
-  pub stops : heard .at ≡ start → standsAt block start 1 2 ≡ false
+  pub on : CanHear block (heard .at) (heard .received .receiver) frames

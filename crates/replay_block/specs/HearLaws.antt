@@ -1,14 +1,16 @@
--- Laws of hearing: what one call of the receiver keeps and spends, where a byte or a silence stands, and the loop over the byte records of a block.
-use Prim.Native.Nat.{ℕ, suc, _+_, _-_, _*_, _/_, _≤_, _<_}
+-- Laws of hearing: what one call of the receiver keeps and spends, where a byte or a silence stands, and what is heard one behind the other.
+use Prim.Native.Nat.{ℕ, suc, _+_, _-_, _*_, _≤_, _<_}
 use native.Mathlib.Omega.{arith}
+use native.Mathlib.Decide.{decLt}
 use mathlib.Core.Path.{_≡_, refl, sym, ap, subst, _∙_}
-use mathlib.Core.Bool.{Bool, true, false, false≢true, and-eq-true-iff}
+use mathlib.Core.Bool.{Bool, true, false, false≢true, _&&_, and-eq-true-iff}
 use mathlib.Core.List.{List, [], _∷_, _++_, map}
 use lib.ListN.{length, take, drop, getD, length-append, length-drop, length-take}
 use lib.Seq.{take-append-seam, drop-drop, drop-cons}
-use lib.Dec.{leb, eqb}
-use borrow.Author.Tests.{eqb-true, eq-eqb, leb-true, le-leb}
+use lib.Dec.{leb, ltb, eqb}
+use borrow.Author.Tests.{eqb-true, eq-eqb, leb-true, le-leb, ltb-true}
 use Rattle.laws.specs.Memory.{outcome, over}
+use Rattle.laws.specs.Test.{pick}
 use Rattle.frame.specs.EndToEnd.{cutFrom, cut}
 use Rattle.frame.specs.Recognition.{recognised}
 use Rattle.frame.specs.RecognitionLaws.{open-most}
@@ -28,8 +30,8 @@ use Rattle.energy.specs.declared.Energies.{Energies}
 use Rattle.meter.specs.declared.Meter.{Meter}
 use Rattle.replay_frames.specs.Putting.{meterAfter, repliesTo}
 use Rattle.trace.specs.Trace.{frontOf}
-use Rattle.trace.specs.Records.{ReadsAs, none}
-use Rattle.trace.specs.TraceLaws.{reads-one, good-within, good-size}
+use Rattle.trace.specs.Records.{ReadsAs, none, next}
+use Rattle.trace.specs.TraceLaws.{reads-then, good-within, good-size}
 use Rattle.trace.specs.FrontCases.{FrontCase, front-case, case-front}
 use Rattle.trace.specs.FrontCases as case
 use Rattle.trace.specs.declared.TraceRecord.{TraceRecord}
@@ -39,7 +41,7 @@ use Rattle.replay.specs.Replay.{Play, stateOf, heardPlay, hostPlay, hostCall, p
 use Rattle.replay.specs.PlayLaws.{call-says, call-keeps, call-size, call-cuts, delivers-most, heard-delivered}
 use Rattle.replay.specs.StateLaws.{playedAll, all-then, all-one}
 use Rattle.replay.specs.declared.ReplayState.{ReplayState}
-use Rattle.replay_block.specs.Hear.{standsAt, isQuiet, HeardOn}
+use Rattle.replay_block.specs.Hear.{standsAt, NoneStands, isQuiet, CanHear, HeardOn}
 use Rattle.replay_block.specs.declared.hear.Heard.{Heard}
 
 -- Bytes with one symbol behind them.
@@ -66,16 +68,19 @@ module _ (r : Receiver) (x : Symbol) where
       let few : length kept ≤ r .count = rw length-take (omega arith) in
       omega (arith, frames-kept-few (map symbol.byte kept ++ (x ∷ [])), bytes-with kept x)
 
--- One record more, where those before it came to a state and nothing else.
-one-more : {t : ReplayState} (rs : List TraceRecord) (r : TraceRecord) (s : ReplayState) → playedAll rs s ≡ hostPlay t →
-    playedAll (rs ++ (r ∷ [])) s ≡ played r t
-one-more {t} rs r s e =
-    let then = all-then rs (r ∷ []) s in
-    let one = all-one r t in
-    let state = then .state ∙ ap (λ (p : Play). playedAll (r ∷ []) (p .state) .state) e ∙ one .state in
-    let frames = then .frames ∙ ap (λ (p : Play). p .frames ++ playedAll (r ∷ []) (p .state) .frames) e ∙ one .frames in
-    let replies = then .replies ∙ ap (λ (p : Play). p .replies ++ playedAll (r ∷ []) (p .state) .replies) e ∙ one .replies in
+-- Records played where those before them came to a state and nothing else; and one record.
+then-played : {t : ReplayState} (rs more : List TraceRecord) (s : ReplayState) → playedAll rs s ≡ hostPlay t → playedAll (rs ++ more) s ≡ playedAll more t
+then-played {t} rs more s e =
+    let then = all-then rs more s in
+    let state = then .state ∙ ap (λ (p : Play). playedAll more (p .state) .state) e in
+    let frames = then .frames ∙ ap (λ (p : Play). p .frames ++ playedAll more (p .state) .frames) e in
+    let replies = then .replies ∙ ap (λ (p : Play). p .replies ++ playedAll more (p .state) .replies) e in
     λ i. record { state = state i; frames = frames i; replies = replies i }
+
+one-played : (r : TraceRecord) (s : ReplayState) → playedAll (r ∷ []) s ≡ played r s
+one-played r s =
+    let one = all-one r s in
+    λ i. record { state = one .state i; frames = one .frames i; replies = one .replies i }
 
 -- Where a byte or a silence stands.
 module _ (block : List ℕ) (at : ℕ) where
@@ -97,7 +102,7 @@ module _ (block : List ℕ) (at : ℕ) where
       let same : getD block at 0 ≡ kind = eqb-true (getD block at 0) kind (both .1) in
       (omega arith, drop-cons block at 0 (omega arith) ∙ ap (λ (k : ℕ). k ∷ drop (suc at) block) same)
 
-  pub byte-stands : standsAt block at 1 2 ≡ true → frontOf (drop at block) ≡ front.Good (records.Byte (getD block (at + 1) 0)) 2
+  byte-stands : standsAt block at 1 2 ≡ true → frontOf (drop at block) ≡ front.Good (records.Byte (getD block (at + 1) 0)) 2
   byte-stands e =
       let there = stands-front (omega arith) e in
       let next : suc at ≡ at + 1 = omega arith in
@@ -105,18 +110,18 @@ module _ (block : List ℕ) (at : ℕ) where
       (there .1 ∙ ap (λ (l : List ℕ). 1 ∷ l) (drop-cons block (suc at) 0 (omega (arith, there .0)) ∙ ap (λ (k : ℕ). getD block k 0 ∷ drop (suc (suc at)) block) next))
       ∙ case-front case.byte
 
-  pub silence-stands : standsAt block at 2 1 ≡ true → frontOf (drop at block) ≡ front.Good records.Silence 1
+  silence-stands : standsAt block at 2 1 ≡ true → frontOf (drop at block) ≡ front.Good records.Silence 1
   silence-stands e = ap frontOf (stands-front (omega arith) e .1) ∙ case-front case.silence
 
   -- Where neither does, a good record is a call of the host.
-  pub host-stands : {r : TraceRecord} {n : ℕ} → standsAt block at 1 2 ≡ false → standsAt block at 2 1 ≡ false → frontOf (drop at block) ≡ front.Good r n →
-      (s : ReplayState) → played r s ≡ hostPlay (hostCall r s)
+  pub host-stands : {r : TraceRecord} {n : ℕ} → NoneStands block at → frontOf (drop at block) ≡ front.Good r n → (s : ReplayState) →
+      played r s ≡ hostPlay (hostCall r s)
   unfolding played
-  host-stands no-byte no-silence good = by refl (front-case good)
+  host-stands none-stands good = by refl (front-case good)
     where
       by : {rest : List ℕ} {r : TraceRecord} {n : ℕ} → drop at block ≡ rest → FrontCase rest (front.Good r n) → (s : ReplayState) → played r s ≡ hostPlay (hostCall r s)
-      by here case.byte s = absurd (false≢true (sym no-byte ∙ front-stands here (omega arith) (omega arith)))
-      by here case.silence s = absurd (false≢true (sym no-silence ∙ front-stands here (omega arith) (omega arith)))
+      by here case.byte s = absurd (false≢true (sym (none-stands .no-byte) ∙ front-stands here (omega arith) (omega arith)))
+      by here case.silence s = absurd (false≢true (sym (none-stands .no-silence) ∙ front-stands here (omega arith) (omega arith)))
       by here (case.pulse low least most) s = refl
       by here case.key-on s = refl
       by here case.key-off s = refl
@@ -126,138 +131,127 @@ module _ (block : List ℕ) (at : ℕ) where
 abbrev pub heardSo : Received → ℕ → ℕ → Heard
 heardSo received at records = record { received = received; at = at; records = records }
 
--- These records were read, with nothing delivered so far, so that they come to the receiver as it stands and leave the meter alone.
-pub record StillHears (block : List ℕ) (start : ℕ) (r : Receiver) (frames : List ℕ) (received : Received) (at : ℕ) : Type 0 where
-  pub read : List TraceRecord
-  pub reads : ReadsAs (drop start block) read (drop at block)
-  pub from : at ≡ start + 2 * length read
-  pub within-block : at ≤ length block
-  pub room : 212 ≤ length frames
-  pub answer : received .answer ≡ Delivered 0 0
-  pub in-range : withinRange (received .receiver) ≡ true
-  pub plays : (m : Meter) (energies : Energies) → playedAll read (stateOf r m energies) ≡ hostPlay (stateOf (received .receiver) m energies)
-  pub spent : 2 * (received .receiver .count) + start ≤ 2 * (r .count) + at
+-- The same number of records, said otherwise.
+pub heard-as : {block : List ℕ} {start at k n : ℕ} {r : Receiver} {frames : List ℕ} {received : Received} → k ≡ n →
+    HeardOn block start r frames (heardSo received at k) → HeardOn block start r frames (heardSo received at n)
+heard-as {block} {start} {at} {r = r} {frames = frames} {received = received} e h = subst (λ (m : ℕ). HeardOn block start r frames (heardSo received at m)) e h
 
--- What the loop has come to, by whether it goes on.
-pub record Hearing (going : Bool) (block : List ℕ) (start : ℕ) (r : Receiver) (frames : List ℕ) (received : Received) (at : ℕ) : Type 0 where
-  pub goes : going ≡ true → StillHears block start r frames received at
-  pub ends : going ≡ false → HeardOn block start r frames (heardSo received at ((at - start) / 2))
-
--- Nothing is read yet.
-pub still-start : {block : List ℕ} {start : ℕ} {frames : List ℕ} (r : Receiver) → withinRange r ≡ true → 212 ≤ length frames → start ≤ length block →
-    StillHears block start r frames (record { receiver = r; answer = Delivered 0 0 }) start
-unfolding playedAll
-still-start r within room inside =
+-- Nothing yet.
+pub heard-none : {block : List ℕ} {start : ℕ} {r : Receiver} {frames : List ℕ} → CanHear block start r frames →
+    HeardOn block start r frames (heardSo (record { receiver = r; answer = Delivered 0 0 }) start 0)
+unfolding playedAll meterAfter repliesTo cutFrom
+heard-none can =
     record {
       read = [];
       reads = none;
+      count = refl;
       from = omega arith;
-      within-block = inside;
-      room = room;
+      bytes = 0;
+      frame-count = 0;
       answer = refl;
-      in-range = within;
+      later = λ some. absurd (omega arith);
+      cuts = refl;
+      size = omega arith;
       plays = λ m energies. refl;
       spent = omega arith;
+      on = can;
     }
 
--- The loop while it goes on.
-pub still-going : {block : List ℕ} {start at : ℕ} {r : Receiver} {frames : List ℕ} {received : Received} → StillHears block start r frames received at →
-    Hearing true block start r frames received at
-still-going h = record { goes = λ _. h; ends = λ e. absurd (false≢true (sym e)) }
-
--- A turn at the place where the loop stands.
-module _ {block : List ℕ} {start at : ℕ} {r : Receiver} {frames : List ℕ} {before : Received} (h : StillHears block start r frames before at) where
-  -- No byte stands there: all stays as it is.
-  pub hears-none : standsAt block at 1 2 ≡ false → HeardOn block start r frames (heardSo before at ((at - start) / 2))
-  unfolding meterAfter repliesTo cutFrom
-  hears-none no-byte =
+-- One symbol, which a record at the place is.
+module _ {block : List ℕ} {at : ℕ} {r : Receiver} {frames : List ℕ} {symbol-record : TraceRecord} {n : ℕ} {received : Received} {left : List ℕ} (x : Symbol)
+    (can : CanHear block at r frames) (good : frontOf (drop at block) ≡ front.Good symbol-record n)
+    (is-heard : (s : ReplayState) → played symbol-record s ≡ heardPlay x s) (long : 2 * bytesIn (x ∷ []) ≤ n)
+    (e : outcome received left ≡ called x r frames) where
+  heard-symbol : HeardOn block at r left (heardSo received (at + n) 1)
+  heard-symbol =
+      let says = call-says x r frames (can .in-range) (can .room) e in
+      let keeps = call-keeps x r frames (can .in-range) (can .room) e in
+      let cuts = call-cuts x r frames (can .in-range) (can .room) e in
+      let size = call-size x r frames (can .in-range) (can .room) e in
       record {
-        read = h .read;
-        reads = h .reads;
-        from = omega (arith, h .from);
-        within-block = h .within-block;
-        count = omega (arith, h .from);
-        bytes = 0;
-        frame-count = 0;
-        answer = h .answer;
-        cuts = refl;
-        size = omega arith;
-        in-range = h .in-range;
-        plays = λ m energies. rw (h .answer) (h .plays m energies);
-        spent = omega (arith, h .spent);
-        stops = λ back. subst (λ (k : ℕ). standsAt block k 1 2 ≡ false) back no-byte;
+        read = symbol-record ∷ [];
+        reads = next good (subst (λ (l : List ℕ). ReadsAs l [] (drop (at + n) block)) (sym (drop-drop n at block)) none);
+        count = refl;
+        from = omega (arith, good-size (drop at block) good);
+        bytes = _;
+        frame-count = _;
+        answer = says;
+        later = λ some. omega arith;
+        cuts = rw cuts (count-frames _);
+        size = omega (arith, delivers-most r x (can .in-range), can .room);
+        plays = λ m energies.
+            one-played symbol-record (stateOf r m energies) ∙ is-heard _ ∙ sym (heard-delivered x r frames (can .in-range) (can .room) e m energies);
+        spent = rw keeps (omega (arith, call-spent r x));
+        on =
+            record {
+              in-range = rw keeps (call-within r x);
+              room = omega (arith, size, can .room);
+              within-block = omega (arith, good-within (drop at block) good, length-drop at block, can .within-block);
+            };
       }
 
-  -- A record that is a symbol for the receiver stands there.
-  module _ {symbol-record : TraceRecord} {n : ℕ} {received : Received} {left : List ℕ} (x : Symbol)
-      (good : frontOf (drop at block) ≡ front.Good symbol-record n) (is-heard : (s : ReplayState) → played symbol-record s ≡ heardPlay x s)
-      (long : 2 * bytesIn (x ∷ []) ≤ n) (e : outcome received left ≡ called x (before .receiver) frames) where
-    -- It ends within the block.
-    within : at + n ≤ length block
-    within = omega (arith, good-within (drop at block) good, length-drop at block)
+-- More is heard behind what delivered nothing.
+module _ {block : List ℕ} {start : ℕ} {r : Receiver} {frames left : List ℕ} {heard more : Heard} (a : HeardOn block start r frames heard)
+    (quiet : isQuiet (heard .received .answer) ≡ true) (b : HeardOn block (heard .at) (heard .received .receiver) left more) where
+  nothing : a .bytes ≡ 0
+  nothing = eqb-true (a .bytes) 0 (sym (ap isQuiet (a .answer)) ∙ quiet)
 
-    -- What has been heard with it.
-    pub hears-symbol : (k : ℕ) → k ≡ length (h .read) + 1 → HeardOn block start r left (heardSo received (at + n) k)
-    hears-symbol k count =
-        let receiver = before .receiver in
-        let says = call-says x receiver frames (h .in-range) (h .room) e in
-        let keeps = call-keeps x receiver frames (h .in-range) (h .room) e in
-        let cuts = call-cuts x receiver frames (h .in-range) (h .room) e in
-        let size = call-size x receiver frames (h .in-range) (h .room) e in
-        record {
-          read = h .read ++ (symbol-record ∷ []);
-          reads = rw drop-drop at (reads-one (h .reads) good);
-          from = omega (arith, h .from);
-          within-block = within;
-          count = rw (length-append, count);
-          bytes = _;
-          frame-count = _;
-          answer = says;
-          cuts = rw cuts (count-frames _);
-          size = omega (arith, delivers-most receiver x (h .in-range));
-          in-range = rw keeps (call-within receiver x);
-          plays = λ m energies.
-              one-more (h .read) symbol-record (stateOf r m energies) (h .plays m energies) ∙ is-heard _
-              ∙ sym (heard-delivered x receiver frames (h .in-range) (h .room) e m energies);
-          spent = rw keeps (omega (arith, call-spent receiver x, h .spent));
-          stops = λ back. absurd (omega (arith, good-size (drop at block) good, h .from));
-        }
+  -- The records so far come to the receiver as it stands, and leave the meter alone.
+  quiet-plays : (m : Meter) (energies : Energies) → playedAll (a .read) (stateOf r m energies) ≡ hostPlay (stateOf (heard .received .receiver) m energies)
+  unfolding meterAfter repliesTo cutFrom
+  quiet-plays m energies = a .plays m energies ∙ rw (a .answer, nothing)
 
-  -- A byte stands there.
-  module _ {received : Received} {left : List ℕ} (there : standsAt block at 1 2 ≡ true)
-      (e : outcome received left ≡ called (symbol.byte (getD block (at + 1) 0)) (before .receiver) frames) where
-    byte-heard : HeardOn block start r left (heardSo received (at + 2) ((at + 2 - start) / 2))
-    unfolding played bytesIn
-    byte-heard = hears-symbol (symbol.byte _) (byte-stands block at there) (λ s. refl) (omega arith) e _ (omega (arith, h .from))
+  pub heard-then : HeardOn block start r left (heardSo (more .received) (more .at) (heard .records + more .records))
+  heard-then =
+      record {
+        read = a .read ++ b .read;
+        reads = reads-then (a .reads) (b .reads);
+        count = rw (length-append, a .count, b .count);
+        from = omega (arith, a .from, b .from);
+        bytes = b .bytes;
+        frame-count = b .frame-count;
+        answer = b .answer;
+        later = λ some. omega (arith, b .later some);
+        cuts = b .cuts;
+        size = b .size;
+        plays = λ m energies. then-played (a .read) (b .read) (stateOf r m energies) (quiet-plays m energies) ∙ b .plays m energies;
+        spent = omega (arith, a .spent, b .spent);
+        on = b .on;
+      }
 
-    -- Where nothing was delivered, the loop goes on.
-    byte-still : isQuiet (received .answer) ≡ true → StillHears block start r left received (at + 2)
-    unfolding meterAfter repliesTo cutFrom
-    byte-still quiet =
-        let d = byte-heard in
-        let nothing : d .bytes ≡ 0 = eqb-true (d .bytes) 0 (sym (ap isQuiet (d .answer)) ∙ quiet) in
-        let none-cut : d .frame-count ≡ 0 = d .cuts ∙ ap (λ (n : ℕ). length (cut (take n left))) nothing in
-        let answer : received .answer ≡ Delivered 0 0 = d .answer ∙ (λ i. Delivered (nothing i) (none-cut i)) in
-        record {
-          read = d .read;
-          reads = d .reads;
-          from = omega (arith, h .from, d .count, d .from);
-          within-block = d .within-block;
-          room = omega (arith, call-size (symbol.byte (getD block (at + 1) 0)) (before .receiver) frames (h .in-range) (h .room) e, h .room);
-          answer = answer;
-          in-range = d .in-range;
-          plays = λ m energies. d .plays m energies ∙ rw answer;
-          spent = omega (arith, d .spent);
-        }
+-- What has delivered something has heard something.
+pub quiet-none : {block : List ℕ} {start : ℕ} {r : Receiver} {frames : List ℕ} {heard : Heard} → HeardOn block start r frames heard → heard .at ≡ start →
+    isQuiet (heard .received .answer) ≡ true
+quiet-none h back = elim (decLt 0 (h .bytes)) [
+  | yes some ↦ absurd (omega (arith, h .later some, h .from, back))
+  | no few ↦ ap isQuiet (h .answer) ∙ eq-eqb (h .bytes) 0 (omega arith)
+]
 
-    -- The turn, either way.
-    pub hears-byte : Hearing (isQuiet (received .answer)) block start r left received (at + 2)
-    hears-byte = record { goes = byte-still; ends = λ _. byte-heard }
+-- A byte, and a silence, behind what delivered nothing.
+module _ {block : List ℕ} {start : ℕ} {r : Receiver} {frames left : List ℕ} {heard : Heard} {received : Received} (a : HeardOn block start r frames heard)
+    (quiet : isQuiet (heard .received .answer) ≡ true) where
+  pub hears-byte : standsAt block (heard .at) 1 2 ≡ true →
+      outcome received left ≡ called (symbol.byte (getD block (heard .at + 1) 0)) (heard .received .receiver) frames →
+      HeardOn block start r left (heardSo received (heard .at + 2) (heard .records + 1))
+  unfolding played bytesIn
+  hears-byte there e = heard-then a quiet (heard-symbol (symbol.byte _) (a .on) (byte-stands block (heard .at) there) (λ s. refl) (omega arith) e)
 
--- A silence that stands at a place.
-pub hears-silence : {received : Received} {left : List ℕ} (block frames : List ℕ) (at : ℕ) (r : Receiver) → withinRange r ≡ true → 212 ≤ length frames →
-    standsAt block at 2 1 ≡ true → outcome received left ≡ called symbol.silence r frames → HeardOn block at r left (heardSo received (at + 1) 1)
-unfolding played bytesIn
-hears-silence block frames at r in-range room there e =
-    let h = still-start {block = block} {start = at} {frames = frames} r in-range room (omega (arith, stands-front block at (omega arith) there .0)) in
-    hears-symbol h symbol.silence (silence-stands block at there) (λ s. refl) (omega arith) e 1 (omega (arith, h .from))
+  pub hears-silence : standsAt block (heard .at) 2 1 ≡ true → outcome received left ≡ called symbol.silence (heard .received .receiver) frames →
+      HeardOn block start r left (heardSo received (heard .at + 1) (heard .records + 1))
+  unfolding played bytesIn
+  hears-silence there e = heard-then a quiet (heard-symbol symbol.silence (a .on) (silence-stands block (heard .at) there) (λ s. refl) (omega arith) e)
+
+-- How many rounds are left at most: one for each byte left, and one while the loop goes on.
+unfoldable pub roundsLeft : List ℕ → ℕ → Bool → ℕ
+roundsLeft block at going = (length block - at) + pick going 1 0
+
+-- A round leaves fewer.
+pub round-less : (block : List ℕ) (before after : ℕ) (quiet : Bool) → before ≤ after → after ≤ length block →
+    roundsLeft block after (quiet && ltb before after) < roundsLeft block before true
+unfolding roundsLeft
+round-less block before after quiet later within = by quiet (ltb before after) refl
+  where
+    by : (quiet t : Bool) → ltb before after ≡ t → (length block - after) + pick (quiet && t) 1 0 < (length block - before) + 1
+    by true true e = let less : before < after = ltb-true before after e in omega arith
+    by true false e = omega arith
+    by false t e = omega arith

@@ -231,7 +231,7 @@ module _ {block memory : List ℕ} {run : Run} {heard : Heard} {frames : List �
   pub heard-room : 35 * length (take (h .bytes) frames) ≤ length (take (length memory - run .text) (drop (run .text) memory))
   heard-room =
       rw (part-to-end memory (run .text))
-      (omega (arith, length-take-le (h .bytes) frames (h .size), length-drop (run .text) memory, ready .room, h .spent, h .within-block, h .from))
+      (omega (arith, length-take-le (h .bytes) frames (h .size), length-drop (run .text) memory, ready .room, h .spent, h .on .within-block, h .from))
 
   -- The frames that it delivers, put to the meter with these lines, are what the records come to.
   module _ {put : FramesPut} {text : List ℕ} (array : length (heard .received .receiver .kept) ≡ 211) (later : run .at < heard .at)
@@ -264,7 +264,7 @@ module _ {block memory : List ℕ} {run : Run} {heard : Heard} {frames : List �
         let before = within-iff (run .session .state) .0 (ready .within) in
         within-iff _ .1
         (record {
-          receiver = line.in-range-iff (heard .received .receiver) .0 (h .in-range);
+          receiver = line.in-range-iff (heard .received .receiver) .0 (h .on .in-range);
           meter = rw (p .meter) (after-within fs (run .session .state .meter) (run .session .state .energies .forward) (run .session .state .energies .reverse) (before .meter));
         })
 
@@ -282,7 +282,7 @@ module _ {block memory : List ℕ} {run : Run} {heard : Heard} {frames : List �
 
     less : mostText block going ≤ mostText block run
     unfolding wentBy
-    less = omega (arith, given-few, h .spent, h .within-block, h .from)
+    less = omega (arith, given-few, h .spent, h .on .within-block, h .from)
 
     abbrev left : List ℕ
     left = take (run .text) memory ++ (text ++ drop (length memory - run .text) (drop (run .text) memory))
@@ -295,7 +295,7 @@ module _ {block memory : List ℕ} {run : Run} {heard : Heard} {frames : List �
         ++ drop (length (over (take (run .text) memory) memory) - run .text) (drop (run .text) (over (take (run .text) memory) memory)))
         ≡ over (take (run .text) memory ++ linesOf given) memory =
         lent-over (run .text) (take (run .text) memory) (linesOf given) memory (length-take-le (run .text) memory (omega (arith, ready .room)))
-        (omega (arith, given-few, ready .room, h .spent, h .within-block, h .from)) in
+        (omega (arith, given-few, ready .room, h .spent, h .on .within-block, h .from)) in
         rw (p .memory) (rw itself at put-there)
 
     -- What was heard, put to the meter.
@@ -304,11 +304,11 @@ module _ {block memory : List ℕ} {run : Run} {heard : Heard} {frames : List �
     heard-goes =
         let size : length left ≡ length memory =
         ap length stored ∙ over-length (take (run .text) memory ++ linesOf given) memory
-        (omega (arith, length-append (take (run .text) memory) (linesOf given), length-take-le (run .text) memory (omega (arith, ready .room)), given-few, ready .room, h .spent, h .within-block, h .from)) in
+        (omega (arith, length-append (take (run .text) memory) (linesOf given), length-take-le (run .text) memory (omega (arith, ready .room)), given-few, ready .room, h .spent, h .on .within-block, h .from)) in
         record {
           read = h .read;
           reads = h .reads;
-          from = h .from;
+          from = omega (arith, h .from);
           session =
               (λ i. wentBy (run .session) (stateOf (heard .received .receiver) (put .meter) (run .session .state .energies)) (heard .at - run .at) (h .count i) (h .cuts i) (length given))
               ∙ ap (λ (q : Play). wentOn (run .session) (h .read) q (heard .at - run .at)) (sym all-played);
@@ -320,7 +320,7 @@ module _ {block memory : List ℕ} {run : Run} {heard : Heard} {frames : List �
                 sized = sized;
                 array = array;
                 numbers = went-fits (run .session) _ _ _ _ _;
-                reached = h .within-block;
+                reached = h .on .within-block;
                 room = omega (arith, less, ready .room, size);
               };
           size = size;

@@ -2,9 +2,7 @@
 // the host's calls.
 use crate::Session;
 use crate::hear::Heard;
-use crate::hear::hear_bytes;
-use crate::hear::hear_silence;
-use crate::hear::stands_at;
+use crate::hear::hear_on;
 use frame::MOST_FRAME;
 use line::Answer;
 use replay::ReplayState;
@@ -15,10 +13,9 @@ use std::num::wrapping_add_u64;
 use trace::Front;
 use trace::record_at;
 ghost use mathlib.Core.Path.{_≡_};
-ghost use mathlib.Core.Bool.{false};
 ghost use Prim.Native.Nat.{_<_};
 ghost use Rattle.replay_block.specs.Block.{wentBy};
-ghost use Rattle.replay_block.specs.Hear.{standsAt, HeardOn};
+ghost use Rattle.replay_block.specs.Hear.{NoneStands, HeardOn};
 ghost use Rattle.replay_block.specs.Run.{runAt, Ready, Turns, PlaysAll, QuietTurn};
 
 // How far the records of a block are played: the session, the place of the next record in the block, and how many bytes of text are written.
@@ -89,7 +86,7 @@ fn put_heard(block: &[u8], run: Run, heard: Heard, frames: &[u8], out: &mut [u8]
 
 // The host's call that stands at the place, or none where no good record stands there.
 fn host_turn(block: &[u8], run: Run) -> Run
-    requires { ⌜ (standsAt (now block) (run .at) 1 2 ≡ false) × (standsAt (now block) (run .at) 2 1 ≡ false) ⌝ }
+    requires { ⌜ NoneStands (now block) (run .at) ⌝ }
     ensures { λ r. ⌜ QuietTurn (now (block .entry)) run r ⌝ }
 {
     let at = run.at;
@@ -111,7 +108,7 @@ fn host_turn(block: &[u8], run: Run) -> Run
     }
 }
 
-// The bytes that are heard from the place on, or the silence or the host's call that stands there.
+// What is heard from the place on, or the host's call that stands there.
 fn turn(block: &[u8], run: Run, out: &mut [u8]) -> Run
     requires { ⌜ Ready (now block) run (now out) ⌝ }
     ensures { λ r. ⌜ Turns (now (block .entry)) run r (now (out .entry)) (now (out .exit)) ⌝ }
@@ -121,14 +118,10 @@ fn turn(block: &[u8], run: Run, out: &mut [u8]) -> Run
     let state = session.state;
     let receiver = state.receiver;
     let at = run.at;
-    let heard = hear_bytes(block, at, receiver, &mut frames);
+    let heard = hear_on(block, at, receiver, &mut frames);
     let to = heard.at;
     if at < to {
         return put_heard(block, run, heard, &frames, out);
-    }
-    if stands_at(block, at, 2, 1) {
-        let silent = hear_silence(block, at, receiver, &mut frames);
-        return put_heard(block, run, silent, &frames, out);
     }
     host_turn(block, run)
 }

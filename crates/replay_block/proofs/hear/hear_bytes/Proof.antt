@@ -1,43 +1,39 @@
--- The loop's invariant is `Hearing`: as long as the loop goes on nothing was delivered, and the turn that ends it has come to what is promised.
--- The measure is what is left of the block.
-use Prim.Native.Nat.{_+_, _-_, _≤_}
+-- The invariant: what has been heard so far, and that the loop goes on as long as nothing is delivered. The measure is what is left of the block.
+use Prim.Native.Nat.{_+_, _-_, _/_, _≤_}
 use mathlib.Core.Path.{_≡_, refl, sym, _∙_}
-use mathlib.Core.Bool.{true}
+use mathlib.Core.Bool.{true, true≢false}
 use native.Mathlib.Omega.{arith}
 use borrow.Author.Needs.{needs}
 use borrow.Author.Tests.{not-true, not-false}
 use lib.ListN.{length}
-use Rattle.replay_block.specs.Hear.{standsAt}
-use Rattle.replay_block.specs.HearLaws.{StillHears, Hearing, still-start, still-going, stands-front, hears-none, hears-byte}
+use Rattle.replay_block.specs.Hear.{standsAt, isQuiet, HeardOn}
+use Rattle.replay_block.specs.HearLaws.{heardSo, heard-as, heard-none, stands-front, hears-byte}
 use Rattle.replay_block.proofs.hear.hear_bytes.Statement.{statement}
 use Rattle.replay_block.proofs.hear.hear_bytes.Tie as tie
 
 abbrev Inv-loop : tie.InvT-loop
 Inv-loop block start frames₀ received₀ at₀ going₀ frames received at going =
-    (length frames ≡ length frames₀) × Hearing going block start (received₀ .receiver) frames received at
+    (length frames ≡ length frames₀)
+    × HeardOn block start (received₀ .receiver) frames (heardSo received at ((at - start) / 2))
+    × (going ≡ isQuiet (received .answer))
 
 abbrev μ-loop : tie.MeasureT-loop
 μ-loop block start frames₀ received₀ at₀ going₀ frames received at going = length block - at
 
 loop-holds : tie.Need-loop-holds Inv-loop μ-loop
-loop-holds c = let pre = c .before .before .pre in (refl, still-going (still-start _ (pre .0) (pre .1) (pre .2)))
-
--- A turn begins where the loop still hears.
-still : (c : tie.In-loop Inv-loop μ-loop) → let loop = c .before .loop in let args = c .before .before .before .before .args in
-    StillHears (args .block .now) (args .start) (args .receiver) (loop .frames) (loop .received) (loop .at)
-still c = c .before .loop .inv .1 .goes (c .loop-test .taken)
+loop-holds c = (refl, heard-as (omega arith) (heard-none (c .before .before .pre)), refl)
 
 stands-at-requires : tie.Need-stands-at-requires Inv-loop μ-loop
-stands-at-requires c κs = (still c .within-block, omega arith)
+stands-at-requires c κs = (c .before .loop .inv .1 .on .within-block, omega arith)
 
 sub-t13 : tie.Need-sub-t13 Inv-loop μ-loop
-sub-t13 c = omega (arith, still (c .before .before) .from)
+sub-t13 c = let heard = c .before .before .before .loop .inv .1 in omega (arith, heard .from)
 
 same-length : tie.Need-same-length Inv-loop μ-loop
 same-length c = c .before .before .before .loop .inv .0
 
 returns : tie.Need-returns Inv-loop μ-loop
-returns c = hears-none (still (c .before .before)) (sym (c .before .stands-at .ensures) ∙ not-true _ (c .if1 .taken))
+returns c = (c .before .before .before .loop .inv .1, λ _. sym (c .before .stands-at .ensures) ∙ not-true _ (c .if1 .taken))
 
 -- Where a byte stands, it ends within the block.
 there : (c : tie.Else1 Inv-loop μ-loop) → let at-loop = c .before .before .before in
@@ -67,16 +63,21 @@ loop-less c = omega (arith, inside (turn-of c))
 loop-again : tie.Need-loop-again Inv-loop μ-loop
 loop-again c =
     let turn = turn-of c in
-    (search needs, rw (c .is-quiet .ensures) (hears-byte (still (turn .before .before)) (there turn) (c .before .before .before .byte .ensures)))
+    let at-loop = turn .before .before .before in
+    let quiet = sym (at-loop .loop .inv .2) ∙ turn .before .before .loop-test .taken in (
+      search needs,
+      heard-as (omega (arith, at-loop .loop .inv .1 .from)) (hears-byte (at-loop .loop .inv .1) quiet (there turn) (c .before .before .before .byte .ensures)),
+      c .is-quiet .ensures,
+    )
 
 sub-t20 : tie.Need-sub-t20 Inv-loop μ-loop
-sub-t20 c = c .before .loop .inv .1 .ends (c .loop-test .left) .from
+sub-t20 c = let heard = c .before .loop .inv .1 in omega (arith, heard .from)
 
 same-length-2 : tie.Need-same-length-2 Inv-loop μ-loop
 same-length-2 c = c .before .loop .inv .0
 
 returns-2 : tie.Need-returns-2 Inv-loop μ-loop
-returns-2 c = c .before .loop .inv .1 .ends (c .loop-test .left)
+returns-2 c = (c .before .loop .inv .1, λ quiet. absurd (true≢false (sym quiet ∙ sym (c .before .loop .inv .2) ∙ c .loop-test .left)))
 
 pub hear-bytes-spec : {M : Type 1} → statement M
 hear-bytes-spec =

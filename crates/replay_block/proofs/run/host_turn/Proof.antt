@@ -34,7 +34,7 @@ returns-3 c =
     let m = f .before .before in
     let start = m .before .before in
     let there = sym (m .record-at .ensures) ∙ f .front .given .1 in
-    rw (c .went-on .ensures, h .host-call .ensures) (host-goes there (host-stands _ _ (start .pre .0) (start .pre .1) there))
+    rw (c .went-on .ensures, h .host-call .ensures) (host-goes there (host-stands _ _ (start .pre) there))
 
 pub host-turn-spec : {M : Type 1} → statement M
 host-turn-spec =

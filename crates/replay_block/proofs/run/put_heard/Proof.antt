@@ -71,7 +71,7 @@ lines-same : (c : tie.After-known-told2) → let s = start (put-of c .before .be
 lines-same c = cc (puts (put-of c) .answer, c .before .said .given .1)
 
 sub-went-on : tie.Need-sub-went-on
-sub-went-on c = start (put-of (c .before) .before .before .before) .pre .1 .from
+sub-went-on c = omega (arith, start (put-of (c .before) .before .before .before) .pre .1 .from)
 
 add-t30 : tie.Need-add-t30
 add-t30 c =
