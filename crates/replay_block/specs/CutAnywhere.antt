@@ -14,7 +14,8 @@ use Rattle.replay.specs.ByHand.{ByHand, handStart}
 use Rattle.replay.specs.Replayed.{StepCall, Steps, placeAfter, stateAfter, textAfter, replayed-by-hand}
 use Rattle.replay_block.specs.Block.{begun}
 use Rattle.replay_block.specs.ReadingLaws.{Stops, one-reading}
-use Rattle.replay_block.specs.Blocks.{BlockCall, BlockCalls, traceOf, textOf, keptAfter, sessionAfter, blocks-replayed}
+use Rattle.replay_block.specs.BlockCalls.{BlockCall, BlockCalls, OfBytes, traceOf, textOf, keptAfter, sessionAfter}
+use Rattle.replay_block.specs.Blocks.{blocks-replayed}
 
 -- The text, and the receiver, the meter and the readings, are the same.
 pub record SameReplay (address : List ℕ) (calls : List BlockCall) (steps : List StepCall) : Type 0 where
