@@ -310,6 +310,21 @@ block-right before s c h = go (blocking h)
         (refl, rest-few (restIn block) (eqb (c .read) 0) (rest-stops block) on, rw b (drop-append-seam (restIn block) _))
         (rw l (lines-within (linesIn block s) (c .lent))) (rw l (drop-append-seam (linesIn block s) _)))
 
+-- What a call that stopped left, and one that was played at the end of the trace.
+pub stops-at : {rest : List ℕ} {c : BlockCall} {n text : ℕ} → BlockIsRight rest c → c .returned .answer ≡ Stopped n text → frontOf rest ≡ front.Refused n
+stops-at {rest} {c} {n} {text} right e = by (right .others n text e)
+  where
+    by : (n ≡ 9) ⊎ (n ≡ 10) → frontOf rest ≡ front.Refused n
+    by (inl same) = right .nine .0 (text, rw same at e) .1 ∙ ap front.Refused (sym same)
+    by (inr same) = right .ten .0 (text, rw same at e) .1 ∙ ap front.Refused (sym same)
+
+pub ends-at : {rest : List ℕ} {c : BlockCall} {text kept : ℕ} → BlockIsRight rest c → c .returned .answer ≡ Played text kept → c .read ≡ 0 → rest ≡ []
+ends-at {rest} {c} {text} {kept} right e end = by (right .played .0 (text, kept, e) .1)
+  where
+    by : (rest ≡ []) ⊎ ((frontOf rest ≡ front.Refused 10) × (0 < c .read)) → rest ≡ []
+    by (inl none) = none
+    by (inr (cut, more)) = absurd (omega arith)
+
 -- Every call in a session within its ranges.
 pub call-right : (before : List ℕ) (s : Session) (c : BlockCall) → isWithin (s .state) ≡ true → IsBlock s c → CallIsRight before s c
 call-right before s c within h =

@@ -221,6 +221,17 @@ blocks-split before s [] later h = (tt, h)
 blocks-split before s (c ∷ cs) later h =
     let more = blocks-split (keptBy (c .returned .answer) before c) (c .returned .session) cs later (h .2) in ((h .0, h .1, more .0), more .1)
 
+-- What is kept after a last call.
+pub kept-last : (before : List ℕ) (earlier : List BlockCall) (c : BlockCall) →
+    keptAfter before (earlier ++ (c ∷ [])) ≡ keptBy (c .returned .answer) (keptAfter before earlier) c
+kept-last before [] c = refl
+kept-last before (x ∷ xs) c = kept-last (keptBy (x .returned .answer) before x) xs c
+
+-- What calls joined bring.
+pub trace-append : (earlier later : List BlockCall) → traceOf (earlier ++ later) ≡ traceOf earlier ++ traceOf later
+trace-append [] later = refl
+trace-append (c ∷ cs) later = ap (λ (l : List ℕ). broughtBy (c .returned .answer) c ++ l) (trace-append cs later) ∙ sym (append-assoc (broughtBy (c .returned .answer) c) _ _)
+
 -- Nothing is counted at the beginning, and nothing is kept.
 pub begun-fits : (address : List ℕ) → NumbersFit (begun address .session)
 unfolding begun

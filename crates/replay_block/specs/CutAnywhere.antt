@@ -1,11 +1,10 @@
 -- A trace cut into blocks at any byte replays as the whole: what the blocks bring, stepped record by record as one trace, comes to the same, and stops
 -- at the same place with the same number.
-use Prim.Native.Nat.{ℕ, _%_, _≤_, _<_}
+use Prim.Native.Nat.{ℕ, _%_, _≤_}
 use native.Mathlib.Omega.{arith}
 use mathlib.Core.Path.{_≡_, refl, sym, ap, subst, _∙_}
-use mathlib.Core.Logic.{_⊎_, inl, inr}
 use mathlib.Core.List.{List, [], _∷_, _++_}
-use lib.ListN.{length, take, drop, take-append-drop, length-drop}
+use lib.ListN.{length, drop, take-append-drop, length-drop}
 use lib.Seq.{length-take-le}
 use Rattle.laws.specs.Memory.{outcome}
 use Rattle.item_address.specs.Address.{Good}
@@ -13,7 +12,6 @@ use Rattle.trace.specs.Trace.{frontOf}
 use Rattle.trace.specs.Records.{written, ReadsAs}
 use Rattle.trace.specs.TraceLaws.{reads-written}
 use Rattle.trace.specs.declared.TraceRecord.{TraceRecord}
-use Rattle.trace.specs.declared.Front.the-variants as front
 use Rattle.replay.specs.Replay.{started, stepped}
 use Rattle.replay.specs.ByHand.{ByHand, handStart}
 use Rattle.replay.specs.StepWords.{step-words}
@@ -21,9 +19,9 @@ use Rattle.replay.specs.Replayed.{StepCall, Steps, placeAfter, stateAfter, text
 use Rattle.replay.specs.declared.StepAnswer.the-variants.{Done, BadRecord}
 use Rattle.replay_block.specs.Block.{begun}
 use Rattle.replay_block.specs.ReadingLaws.{Stops, one-reading}
-use Rattle.replay_block.specs.BlockCalls.{BlockCall, keptBy, BlockCalls, OfBytes, traceOf, textOf, keptAfter, sessionAfter}
-use Rattle.replay_block.specs.BlockWords.{BlockIsRight}
-use Rattle.replay_block.specs.Blocks.{brought-bytes, blocks-replayed}
+use Rattle.replay_block.specs.BlockCalls.{BlockCall, BlockCalls, OfBytes, traceOf, textOf, keptAfter, sessionAfter}
+use Rattle.replay_block.specs.BlockWords.{stops-at, ends-at}
+use Rattle.replay_block.specs.Blocks.{kept-last, brought-bytes, blocks-replayed}
 use Rattle.replay_block.specs.declared.BlockAnswer.the-variants.{Played, Stopped}
 
 -- A further step of the whole, behind those steps: it answers what its `ensures` says.
@@ -48,27 +46,6 @@ pub record SameReplay (address : List ℕ) (calls : List BlockCall) (steps : Lis
   -- where it was played at the end of the trace, a further step is done, whatever it is lent
   pub ended : (earlier : List BlockCall) (c : BlockCall) → calls ≡ earlier ++ (c ∷ []) → (text kept : ℕ) → c .returned .answer ≡ Played text kept →
       c .read ≡ 0 → (next : StepCall) → StepsOn address calls steps next → next .returned .answer ≡ Done
-
--- What is kept after a last call.
-kept-last : (before : List ℕ) (earlier : List BlockCall) (c : BlockCall) →
-    keptAfter before (earlier ++ (c ∷ [])) ≡ keptBy (c .returned .answer) (keptAfter before earlier) c
-kept-last before [] c = refl
-kept-last before (x ∷ xs) c = kept-last (keptBy (x .returned .answer) before x) xs c
-
--- What a call that stopped left, and one that was played at the end of the trace.
-stops-at : {rest : List ℕ} {c : BlockCall} {n text : ℕ} → BlockIsRight rest c → c .returned .answer ≡ Stopped n text → frontOf rest ≡ front.Refused n
-stops-at {rest} {c} {n} {text} right e = by (right .others n text e)
-  where
-    by : (n ≡ 9) ⊎ (n ≡ 10) → frontOf rest ≡ front.Refused n
-    by (inl same) = right .nine .0 (text, rw same at e) .1 ∙ ap front.Refused (sym same)
-    by (inr same) = right .ten .0 (text, rw same at e) .1 ∙ ap front.Refused (sym same)
-
-ends-at : {rest : List ℕ} {c : BlockCall} {text kept : ℕ} → BlockIsRight rest c → c .returned .answer ≡ Played text kept → c .read ≡ 0 → rest ≡ []
-ends-at {rest} {c} {text} {kept} right e end = by (right .played .0 (text, kept, e) .1)
-  where
-    by : (rest ≡ []) ⊎ ((frontOf rest ≡ front.Refused 10) × (0 < c .read)) → rest ≡ []
-    by (inl none) = none
-    by (inr (cut, more)) = absurd (omega arith)
 
 -- Calls over blocks, and steps over the trace that they bring up to where no good record stands.
 pub cut-anywhere : (address : List ℕ) (calls : List BlockCall) (steps : List StepCall) → length address ≡ 6 → Good address → OfBytes calls →

@@ -9,3 +9,4 @@ pub mod BlockCalls
 pub mod BlockWords
 pub mod Blocks
 pub mod CutAnywhere
+pub mod BlocksDone
