@@ -34,7 +34,32 @@ use Rattle.replay_frames.specs.PutLent.{put-lent}
 use Rattle.trace.specs.declared.TraceRecord.{TraceRecord}
 use Rattle.trace.specs.declared.TraceRecord.the-variants.{Byte, Silence, Pulse, Key, Settle}
 use Rattle.replay.specs.Replay.{Play, stateOf, countedIn, heardPlay, hostCall, played}
-use Rattle.replay.specs.ByHand.{AnswerCall, AnswerCalls, meterLeft, framesIn, repliesIn, Hears, HandTurn, heard, counted, keyed, turned, ByHand, done, byte, silence, pulse, key, settle, stateLeft, framesOfTurn, repliesOfTurn, framesPutIn, repliesGiven, spelledBy}
+use Rattle.replay.specs.ByHand.{
+  AnswerCall,
+  AnswerCalls,
+  meterLeft,
+  framesIn,
+  repliesIn,
+  Hears,
+  HandTurn,
+  heard,
+  counted,
+  keyed,
+  turned,
+  ByHand,
+  done,
+  byte,
+  silence,
+  pulse,
+  key,
+  settle,
+  stateLeft,
+  framesOfTurn,
+  repliesOfTurn,
+  framesPutIn,
+  repliesGiven,
+  spelledBy,
+}
 use Rattle.replay.specs.StateLaws.{Fit, heard-call, played-fit, playedAll}
 use Rattle.replay.specs.declared.ReplayState.{ReplayState}
 
@@ -73,7 +98,8 @@ answers-same m forward reverse (c ∷ cs) sized h =
     let lent = put-lent (c .bytes) m forward reverse sized (c .lent) (h .0) in
     let returned : c .returned ≡ put (c .bytes) m forward reverse .answer = ap (λ (o : Outcome Answered). o .answer) (h .1) ∙ lent .0 in
     let left : c .left ≡ answered (c .bytes) m forward reverse (c .lent) .memory = ap (λ (o : Outcome Answered). o .memory) (h .1) in
-    let reply : replyIn (c .returned .answer) (c .left) ≡ replyTo (c .bytes) m forward reverse = rw (ap (λ (o : Outcome Answered). o .answer) (h .1), left) (lent .1) in
+    let reply : replyIn (c .returned .answer) (c .left) ≡ replyTo (c .bytes) m forward reverse =
+    rw (ap (λ (o : Outcome Answered). o .answer) (h .1), left) (lent .1) in
     let more = answers-same (put (c .bytes) m forward reverse .answer .meter) forward reverse cs (put-sized (c .bytes) m forward reverse sized)
     (subst (λ (a : Answered). AnswerCalls (a .meter) forward reverse cs) returned (h .2)) in
     record {
@@ -94,7 +120,8 @@ unfolding heardPlay delivered
 hears-same {s = s} {x = x} {c = c} {calls = calls} f h =
     let reading = readingWith (s .receiver) x in
     let e : outcome (c .returned) (c .left) ≡ delivered reading (s .receiver) (c .lent) = h .call ∙ heard-call (f .received) x (c .lent) (h .room) in
-    let answer : c .returned .answer ≡ Delivered (length (joined (reading .frames))) (length (reading .frames)) = ap (λ (o : Outcome Received). o .answer .answer) e in
+    let answer : c .returned .answer ≡ Delivered (length (joined (reading .frames))) (length (reading .frames)) =
+    ap (λ (o : Outcome Received). o .answer .answer) e in
     let receiver : c .returned .receiver ≡ keeping (reading .kept) (s .receiver) = ap (λ (o : Outcome Received). o .answer .receiver) e in
     let left : c .left ≡ over (joined (reading .frames)) (c .lent) = ap (λ (o : Outcome Received). o .memory) e in
     let handed : deliveredBy (c .returned .answer) (c .left) ≡ joined (reading .frames) = rw (answer, left) (take-append-seam (joined (reading .frames)) _) in
@@ -125,7 +152,8 @@ hand-next {s} {rs} {t} {turns} r first more =
     }
 
 -- The state after a turn is the state after its record.
-turn-fit : {line : List Symbol} {s : ReplayState} {t : HandTurn} (r : TraceRecord) → Fit line s → SameTurn s t (played r s) → Fit (line ++ spelledBy r) (turned s t)
+turn-fit : {line : List Symbol} {s : ReplayState} {t : HandTurn} (r : TraceRecord) → Fit line s → SameTurn s t (played r s) →
+    Fit (line ++ spelledBy r) (turned s t)
 turn-fit r f same = subst (Fit _) (sym (same .state)) (played-fit f r)
 
 -- The calls of the host.
@@ -194,7 +222,8 @@ made-hears {s = s} f x =
     let reading = readingWith (s .receiver) x in
     let room : 212 ≤ length {A = ℕ} (replicate 212 0) = omega (arith, length-replicate {A = ℕ} 212 0) in
     let e : called x (s .receiver) (replicate 212 0) ≡ delivered reading (s .receiver) (replicate 212 0) = heard-call (f .received) x (replicate 212 0) room in
-    let fs : framesIn (madeTurn x s) ≡ framesOf (reading .frames) = made-frames (s .meter) (s .energies .forward) (s .energies .reverse) (framesOf (reading .frames)) in
+    let fs : framesIn (madeTurn x s) ≡ framesOf (reading .frames) =
+    made-frames (s .meter) (s .energies .forward) (s .energies .reverse) (framesOf (reading .frames)) in
     record {
       symbol = refl;
       room = room;

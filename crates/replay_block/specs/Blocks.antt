@@ -230,7 +230,8 @@ kept-last before (x ∷ xs) c = kept-last (keptBy (x .returned .answer) before x
 -- What calls joined bring.
 pub trace-append : (earlier later : List BlockCall) → traceOf (earlier ++ later) ≡ traceOf earlier ++ traceOf later
 trace-append [] later = refl
-trace-append (c ∷ cs) later = ap (λ (l : List ℕ). broughtBy (c .returned .answer) c ++ l) (trace-append cs later) ∙ sym (append-assoc (broughtBy (c .returned .answer) c) _ _)
+trace-append (c ∷ cs) later =
+    let brought = broughtBy (c .returned .answer) c in ap (λ (l : List ℕ). brought ++ l) (trace-append cs later) ∙ sym (append-assoc brought _ _)
 
 -- Nothing is counted at the beginning, and nothing is kept.
 pub begun-fits : (address : List ℕ) → NumbersFit (begun address .session)

@@ -33,7 +33,8 @@ reads-from zero (b ∷ block) = by (frontOf (b ∷ block)) refl (λ n. reads-fro
         ReadsAs (b ∷ block) (recordsBy f (λ n. recordsFrom (n - 1) block)) (restBy f (b ∷ block) (λ n. restFrom (n - 1) block))
     by Ended e more = none
     by (Refused n) e more = none
-    by (Good r n) e more = next e (subst (λ (l : List ℕ). ReadsAs l (recordsFrom (n - 1) block) (restFrom (n - 1) block)) (sym (drop-behind b block e)) (more n))
+    by (Good r n) e more =
+        next e (subst (λ (l : List ℕ). ReadsAs l (recordsFrom (n - 1) block) (restFrom (n - 1) block)) (sym (drop-behind b block e)) (more n))
 
 -- The records of a block, and then its rest.
 pub reads-all : (block : List ℕ) → ReadsAs block (recordsIn block) (restIn block)
