@@ -6,15 +6,13 @@ use native.Mathlib.Omega.{arith}
 use mathlib.Core.Bool.{Bool}
 use lib.ListN.{length, replicate, length-replicate}
 use lib.Seq.{take-append-seam}
-use Rattle.laws.specs.All.{AllOf}
 use Rattle.laws.specs.Memory.{Outcome, outcome, over}
-use Rattle.frame.specs.Frame.{Frame}
-use Rattle.frame.specs.EndToEnd.{cutFrom, cut}
-use Rattle.frame.specs.EndToEndLaws.{cut-next}
+use Rattle.frame.specs.EndToEnd.{cut}
+use Rattle.frame.specs.EndToEndLaws.{cut-again}
 use Rattle.line_terms.specs.Line as symbol
 use Rattle.line_terms.specs.Line.{Symbol}
-use Rattle.line_terms.specs.Places.{Found, joined, framesOf}
-use Rattle.line_terms.specs.FoundFrames.{AllFrames, scan-frames}
+use Rattle.line_terms.specs.Places.{joined, framesOf}
+use Rattle.line_terms.specs.FoundFrames.{AllFrames, scan-frames, found-behind, found-frames, cut-joined}
 use Rattle.line.specs.Receiver.{readingWith, keeping, delivered, called}
 use Rattle.line.specs.Demand3.{ReceiverCall, deliveredBy}
 use Rattle.line.specs.declared.Answer.the-variants.{Delivered}
@@ -28,7 +26,7 @@ use Rattle.meter.specs.declared.Answered.{Answered}
 use Rattle.meter.specs.declared.Counted.{Counted}
 use Rattle.meter.specs.declared.KeySet.{KeySet}
 use Rattle.meter.specs.declared.Meter.{Meter}
-use Rattle.replay_frames.specs.Putting.{behindEachOther, replyIn, put, replyTo, meterAfter, repliesTo}
+use Rattle.replay_frames.specs.Putting.{replyIn, put, replyTo, meterAfter, repliesTo}
 use Rattle.replay_frames.specs.PuttingLaws.{put-sized}
 use Rattle.replay_frames.specs.PutLent.{put-lent}
 use Rattle.trace.specs.declared.TraceRecord.{TraceRecord}
@@ -62,23 +60,6 @@ use Rattle.replay.specs.ByHand.{
 }
 use Rattle.replay.specs.StateLaws.{Fit, heard-call, played-fit, playedAll}
 use Rattle.replay.specs.declared.ReplayState.{ReplayState}
-
--- Frames one behind the other are cut into the same frames again.
-pub cut-again : (fs : List (List ℕ)) → AllOf Frame fs → cut (behindEachOther fs) ≡ fs
-unfolding cutFrom behindEachOther
-cut-again [] w = refl
-cut-again (f ∷ fs) w = cut-next f (behindEachOther fs) (w .0) ∙ ap (λ (l : List (List ℕ)). f ∷ l) (cut-again fs (w .1))
-
--- Frames found, without their places, one behind the other.
-pub found-behind : (fs : List Found) → behindEachOther (framesOf fs) ≡ joined fs
-unfolding behindEachOther framesOf joined
-found-behind [] = refl
-found-behind (f ∷ fs) = ap (λ (l : List ℕ). f .frame ++ l) (found-behind fs)
-
-pub found-frames : (fs : List Found) → AllFrames fs → AllOf Frame (framesOf fs)
-unfolding framesOf
-found-frames [] w = tt
-found-frames (f ∷ fs) w = (w .0, found-frames fs (w .1))
 
 -- What a receiver with one symbol more reads are frames.
 pub reading-frames : (r : Receiver) (x : Symbol) → AllFrames (readingWith r x .frames)
@@ -126,8 +107,7 @@ hears-same {s = s} {x = x} {c = c} {calls = calls} f h =
     let left : c .left ≡ over (joined (reading .frames)) (c .lent) = ap (λ (o : Outcome Received). o .memory) e in
     let handed : deliveredBy (c .returned .answer) (c .left) ≡ joined (reading .frames) = rw (answer, left) (take-append-seam (joined (reading .frames)) _) in
     let same : framesIn calls ≡ framesOf (reading .frames) =
-    sym (cut-again (framesIn calls) (h .frames)) ∙ ap cut (h .handed-on ∙ handed ∙ sym (found-behind (reading .frames)))
-    ∙ cut-again (framesOf (reading .frames)) (found-frames (reading .frames) (reading-frames (s .receiver) x)) in
+    sym (cut-again (framesIn calls) (h .frames)) ∙ ap cut (h .handed-on ∙ handed) ∙ cut-joined (reading .frames) (reading-frames (s .receiver) x) in
     let put = answers-same (s .meter) (s .energies .forward) (s .energies .reverse) calls (f .sized) (h .answers) in
     record {
       state = rw (receiver, put .meter, same);

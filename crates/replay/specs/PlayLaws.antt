@@ -2,7 +2,7 @@
 -- to the meter, is what the symbol comes to.
 use Prim.Native.Nat.{ℕ, _+_, _*_, _≤_}
 use native.Mathlib.Omega.{arith}
-use mathlib.Core.Path.{_≡_, refl, sym, ap, _∙_}
+use mathlib.Core.Path.{_≡_, refl, ap, _∙_}
 use mathlib.Core.Bool.{Bool, true, false, false≢true, _&&_}
 use mathlib.Core.List.{List, [], _∷_, _++_, map}
 use lib.ListN.{length, take, length-take}
@@ -15,6 +15,7 @@ use Rattle.line_verdict.specs.VerdictOnLaws.{within-most}
 use Rattle.line_terms.specs.Line.{Symbol, byte, silence}
 use Rattle.line_terms.specs.Places.{joined, framesOf}
 use Rattle.line_terms.specs.FramesFew.{bytesIn, frames-few}
+use Rattle.line_terms.specs.FoundFrames.{cut-joined}
 use Rattle.line.specs.Receiver.{keptBytes, withinRange, readingWith, keeping, delivered, called}
 use Rattle.line.specs.declared.Receiver.{Receiver}
 use Rattle.line.specs.declared.Received.{Received}
@@ -31,7 +32,7 @@ use Rattle.trace.specs.declared.TraceRecord.{TraceRecord}
 use Rattle.trace.specs.declared.TraceRecord.the-variants.{Byte, Silence, Pulse, Key, Settle}
 use Rattle.replay.specs.Replay.{Play, stateOf, isWithin, heardPlay, hostPlay, played, steppedWith, playedStep}
 use Rattle.replay.specs.Play.{quiet, playedOutcome, CanPut, deliveredPlay}
-use Rattle.replay.specs.ByHandLaws.{cut-again, found-behind, found-frames, reading-frames}
+use Rattle.replay.specs.ByHandLaws.{reading-frames}
 use Rattle.replay.specs.declared.ReplayState.{ReplayState}
 use Rattle.replay.specs.declared.play.Played.{Played}
 use Rattle.replay.specs.declared.StepAnswer.the-variants as step
@@ -67,7 +68,7 @@ heard-fits : (s : ReplayState) (x : Symbol) → isWithin s ≡ true → MeterSiz
 unfolding heardPlay
 heard-fits s x within sized =
     let fs = readingWith (s .receiver) x .frames in
-    let cuts : cut (joined fs) ≡ framesOf fs = ap cut (sym (found-behind fs)) ∙ cut-again (framesOf fs) (found-frames fs (reading-frames (s .receiver) x)) in
+    let cuts : cut (joined fs) ≡ framesOf fs = cut-joined fs (reading-frames (s .receiver) x) in
     let text : length (linesOf (repliesTo (framesOf fs) (s .meter) (s .energies .forward) (s .energies .reverse))) ≤ 35 * length (joined fs) =
     rw cuts at (all-text (joined fs) (s .meter) (s .energies .forward) (s .energies .reverse) sized) in
     omega (arith, text, delivers-most (s .receiver) x (both-within s within .0))
@@ -130,7 +131,7 @@ module _ (x : Symbol) (r : Receiver) (lent : List ℕ) {received : Received} {fr
   call-cuts =
       let front : take (length (joined (readingWith r x .frames))) frames ≡ joined (readingWith r x .frames) =
       rw call-leaves (take-append-seam (joined (readingWith r x .frames)) _) in
-      ap cut (front ∙ sym (found-behind (readingWith r x .frames))) ∙ cut-again _ (found-frames _ (reading-frames r x))
+      ap cut front ∙ cut-joined _ (reading-frames r x)
 
   -- It can be put to a meter within its ranges, with 8,192 bytes for the lines: "at most 212 bytes delivered".
   pub heard-can-put : (m : Meter) (energies : Energies) (memory : List ℕ) → withinRanges m (energies .forward) (energies .reverse) ≡ true →

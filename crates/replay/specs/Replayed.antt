@@ -111,7 +111,7 @@ pub record StepIsRight (trace : List ℕ) (at : ℕ) (s : ReplayState) (c : Step
 
 -- What holds of a list of steps from the start of an address.
 pub record Replays (address trace : List ℕ) (calls : List StepCall) : Type 1 where
-  -- the records played, which are those of the trace up to the place
+  -- the records played, which are those of the trace up to the place, and as many as the answers say
   pub records : List TraceRecord
   pub right : AllOf FieldsRight records
   pub reached : placeAfter 0 calls ≤ length trace

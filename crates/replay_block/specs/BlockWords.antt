@@ -164,7 +164,7 @@ pub record BlockIsRight (rest : List ℕ) (c : BlockCall) : Type 0 where
       (kept ≡ length rest) × (kept ≤ 6) × (drop kept (c .leftBuffer) ≡ drop kept (c .buffer))
       × (text ≤ length (c .left)) × (drop text (c .left) ≡ drop text (c .lent))
 
--- What holds of a call in a session of a good address, behind these bytes kept.
+-- What holds of a call in a session within its ranges, behind these bytes kept.
 pub record CallIsRight (before : List ℕ) (s : Session) (c : BlockCall) : Type 0 where
   -- it is never refused with 16; with 1 exactly where the buffer or the text memory is too short, and with no other number
   pub within : c .returned .answer ≡ Refused 16 → ⊥
