@@ -41,6 +41,7 @@ unfolding behindEachOther framesOf joined
 found-behind [] = refl
 found-behind (f ∷ fs) = ap (λ (l : List ℕ). f .frame ++ l) (found-behind fs)
 
+-- Each of them is a frame.
 pub found-frames : (fs : List Found) → AllFrames fs → AllOf Frame (framesOf fs)
 unfolding framesOf
 found-frames [] w = tt

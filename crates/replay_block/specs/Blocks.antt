@@ -143,7 +143,7 @@ block-came before s c block is bytes told begins =
       replies = omega arith;
     }
 
--- A call behind what was kept.
+-- A call behind what was kept: what it leaves, and how far it has come.
 module _ (before : List ℕ) (s : Session) (c : BlockCall) (h : IsBlock s c) where
   abbrev rest : List ℕ
   rest = keptBy (c .returned .answer) before c
@@ -178,6 +178,7 @@ calls-came {before} {s} (c ∷ cs) fits bytes h =
     let first = call-came before s c (h .0) fits (bytes .0) (h .1) in
     came-then first (calls-came cs (came-fits first) (bytes .1) (h .2))
 
+-- No good record stands at the front of what is kept after them.
 calls-stop : (before : List ℕ) (s : Session) (calls : List BlockCall) → Stops before → BlockCalls before s calls → Stops (keptAfter before calls)
 calls-stop before s [] first h = first
 calls-stop before s (c ∷ cs) first h =
@@ -210,7 +211,7 @@ pub record ReplaysInBlocks (address : List ℕ) (calls : List BlockCall) : Type 
       sessionAfter (begun address .session) calls .frames ≡ length (framesPutIn turns) % 18446744073709551616
   pub replies : (turns : List HandTurn) → ByHand (handStart address) records turns →
       sessionAfter (begun address .session) calls .replies ≡ length (repliesGiven turns) % 18446744073709551616
-  -- each call
+  -- each call: where it is refused, stops or is played, and what it leaves
   pub each : (earlier : List BlockCall) (c : BlockCall) (later : List BlockCall) → calls ≡ earlier ++ (c ∷ later) →
       CallIsRight (keptAfter [] earlier) (sessionAfter (begun address .session) earlier) c
 
@@ -233,11 +234,12 @@ trace-append [] later = refl
 trace-append (c ∷ cs) later =
     let brought = broughtBy (c .returned .answer) c in ap (λ (l : List ℕ). brought ++ l) (trace-append cs later) ∙ sym (append-assoc brought _ _)
 
--- Nothing is counted at the beginning, and nothing is kept.
+-- Nothing is counted at the beginning.
 pub begun-fits : (address : List ℕ) → NumbersFit (begun address .session)
 unfolding begun
 begun-fits address = record { place = omega arith; records = omega arith; frames = omega arith; replies = omega arith }
 
+-- Nothing left is no good record.
 pub none-kept : Stops []
 unfolding restFrom
 none-kept = rest-stops []

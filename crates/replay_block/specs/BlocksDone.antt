@@ -57,6 +57,7 @@ left-reads {records} s first later fits bytes h whole =
     reads-on (reads-more (calls-came first fits bytes h .reads) (traceOf later))
     (subst (λ (l : List ℕ). ReadsAs l records []) (trace-append first later) whole)
 
+-- A list of no bytes.
 empty : (l : List ℕ) → length l ≡ 0 → l ≡ []
 empty [] e = refl
 empty (x ∷ l) e = absurd (omega arith)
@@ -85,6 +86,7 @@ blocks-done address records calls six good right bytes h whole =
     reads : ReadsAs (traceOf calls) records []
     reads = rw (whole, ← append-nil (written records)) (reads-written records [] right)
 
+    -- So the records are these, and nothing is kept.
     one : (blocks .records ≡ records) × (keptAfter [] calls ≡ [])
     one =
         one-reading
@@ -118,6 +120,7 @@ blocks-done address records calls six good right bytes h whole =
               absurd (read-unrefused (rw (none, append-nil) at (behind .1)) there)
         ]
 
+    -- With which number it stops.
     number : (earlier : List BlockCall) (c : BlockCall) (later : List BlockCall) → calls ≡ earlier ++ (c ∷ later) → {n : ℕ} (text : ℕ) →
         (n ≡ 9) ⊎ (n ≡ 10) → c .returned .answer ≡ Stopped n text → (n ≡ 10) × (c .read ≡ 0) × (length (traceOf earlier) < length (written records))
     number earlier c later e text (inl nine) stop =
