@@ -8,7 +8,7 @@ use lib.ListN.{length, take, drop, length-append, length-drop}
 use lib.Seq.{take-append-seam, take-add}
 use Rattle.laws.specs.All.{AllOf}
 use Rattle.laws.specs.AllLaws.{all-drop, all-append}
-use Rattle.laws.specs.Memory.{outcome, over, IsByte, Bytes}
+use Rattle.laws.specs.Memory.{outcome, IsByte, Bytes}
 use Rattle.line_terms.specs.Line.{Symbol, Certain}
 use Rattle.line_terms.specs.Places.{framesOf, Exactly}
 use Rattle.line_terms.specs.Scan.{scan}

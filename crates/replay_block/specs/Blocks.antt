@@ -13,7 +13,7 @@ use Rattle.item_address.specs.Address.{Good}
 use Rattle.listing.specs.Lines.{linesOf}
 use Rattle.listing.specs.LinesLaws.{lines-append}
 use Rattle.trace.specs.Records.{FieldsRight, written, ReadsAs, none}
-use Rattle.trace.specs.TraceLaws.{reads-bytes, reads-more, reads-then, written-append}
+use Rattle.trace.specs.TraceLaws.{reads-bytes, reads-written, reads-more, reads-then, written-append}
 use Rattle.trace.specs.declared.TraceRecord.{TraceRecord}
 use Rattle.replay.specs.Replay.{Play, started}
 use Rattle.replay.specs.StateLaws.{Fit, fit-within, start-fit, playedAll, all-fit, all-then}
@@ -243,6 +243,10 @@ begun-fits address = record { place = omega arith; records = omega arith; frames
 pub none-kept : Stops []
 unfolding restFrom
 none-kept = rest-stops []
+
+-- The trace is read as these records, up to what is kept.
+pub blocks-read : {address : List ℕ} {calls : List BlockCall} → (r : ReplaysInBlocks address calls) → ReadsAs (traceOf calls) (r .records) (keptAfter [] calls)
+blocks-read {calls = calls} r = rw (r .up-to) (reads-written (r .records) (keptAfter [] calls) (r .right))
 
 -- A trace cut into blocks at any byte.
 pub blocks-replayed : (address : List ℕ) (calls : List BlockCall) → length address ≡ 6 → Good address → OfBytes calls →

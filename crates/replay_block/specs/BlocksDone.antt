@@ -29,6 +29,7 @@ use Rattle.replay_block.specs.Blocks.{
   kept-last,
   trace-append,
   none-kept,
+  blocks-read,
   blocks-replayed,
 }
 use Rattle.replay_block.specs.Run.{NumbersFit}
@@ -89,11 +90,9 @@ blocks-done address records calls six good right bytes h whole =
     -- So the records are these, and nothing is kept.
     one : (blocks .records ≡ records) × (keptAfter [] calls ≡ [])
     one =
-        one-reading
-        (subst (λ (l : List ℕ). ReadsAs l (blocks .records) (keptAfter [] calls)) (sym (blocks .up-to))
-        (reads-written (blocks .records) (keptAfter [] calls) (blocks .right))) (blocks .no-more) reads none-kept
+        one-reading (blocks-read blocks) (blocks .no-more) reads none-kept
 
-    -- So is what a call leaves, with what the later ones bring.
+    -- What a call leaves, with what the later ones bring, is read to its end too.
     left : (earlier : List BlockCall) (c : BlockCall) (later : List BlockCall) → calls ≡ earlier ++ (c ∷ later) →
         (ts : List TraceRecord) × ReadsAs (keptBy (c .returned .answer) (keptAfter [] earlier) c ++ traceOf later) ts []
     left earlier c later e =
@@ -105,7 +104,7 @@ blocks-done address records calls six good right bytes h whole =
         (blocks-split [] (begun address .session) first later (subst (BlockCalls [] (begun address .session)) joined h) .0)
         (subst (λ (cs : List BlockCall). ReadsAs (traceOf cs) records []) joined reads))
 
-    -- It is not refused where the later ones bring nothing, as it is not where the trace is whole.
+    -- Where it leaves what is refused, the calls before it have not brought the whole trace.
     soon : (earlier : List BlockCall) (c : BlockCall) (later : List BlockCall) → calls ≡ earlier ++ (c ∷ later) → (n : ℕ) →
         frontOf (keptBy (c .returned .answer) (keptAfter [] earlier) c) ≡ front.Refused n → length (traceOf earlier) < length (written records)
     soon earlier c later e n there =

@@ -21,7 +21,7 @@ use Rattle.replay_block.specs.Block.{begun}
 use Rattle.replay_block.specs.ReadingLaws.{Stops, one-reading}
 use Rattle.replay_block.specs.BlockCalls.{BlockCall, BlockCalls, OfBytes, traceOf, textOf, keptAfter, sessionAfter}
 use Rattle.replay_block.specs.BlockWords.{stops-at, ends-at}
-use Rattle.replay_block.specs.Blocks.{kept-last, brought-bytes, blocks-replayed}
+use Rattle.replay_block.specs.Blocks.{kept-last, brought-bytes, blocks-read, blocks-replayed}
 use Rattle.replay_block.specs.declared.BlockAnswer.the-variants.{Played, Stopped}
 
 -- A further step of the whole, behind those steps: it answers what its `ensures` says.
@@ -56,9 +56,7 @@ cut-anywhere address calls steps six good buffers h k end =
     let at = placeAfter 0 steps in
     let blocks = blocks-replayed address calls six good buffers h in
     let whole = replayed-by-hand address trace steps six good (brought-bytes calls buffers) k in
-    let one : ReadsAs trace (blocks .records) (keptAfter [] calls) =
-    subst (λ (l : List ℕ). ReadsAs l (blocks .records) (keptAfter [] calls)) (sym (blocks .up-to))
-    (reads-written (blocks .records) (keptAfter [] calls) (blocks .right)) in
+    let one = blocks-read blocks in
     let split : trace ≡ written (whole .records) ++ drop at trace =
     sym (take-append-drop at trace) ∙ ap (λ (l : List ℕ). l ++ drop at trace) (whole .up-to) in
     let other : ReadsAs trace (whole .records) (drop at trace) =
