@@ -11,6 +11,11 @@ pub data EndToEnd : List ℕ → Type 0 where
   none : EndToEnd []
   next : {frame rest : List ℕ} → Frame frame → EndToEnd rest → EndToEnd (frame ++ rest)
 
+-- Frames one behind the other.
+unfoldable pub behindEachOther : List (List ℕ) → List ℕ
+behindEachOther [] = []
+behindEachOther (f ∷ fs) = f ++ behindEachOther fs
+
 -- Bytes cut into frames, the first k of which belong to a frame that is cut off already.
 unfoldable pub cutFrom : ℕ → List ℕ → List (List ℕ)
 cutFrom k [] = []

@@ -9,11 +9,12 @@ use lib.ListN.{length, take, drop, length-append, length-drop}
 use lib.Seq.{take-at, drop-at, drop-drop}
 use lib.Dec.{leb}
 use borrow.Author.Tests.{le-leb, leb-true}
+use Rattle.laws.specs.All.{AllOf}
 use Rattle.laws.specs.Test.{pick}
 use Rattle.frame.specs.Frame.{Frame, lengthOf}
 use Rattle.frame.specs.StageLaws.{same-length}
 use Rattle.frame.specs.RecognitionLaws.{frame-spans, frame-least}
-use Rattle.frame.specs.EndToEnd.{EndToEnd, none, next, cutFrom, cut, nextEnd}
+use Rattle.frame.specs.EndToEnd.{EndToEnd, none, next, behindEachOther, cutFrom, cut, nextEnd}
 
 -- Bytes that are cut off already are passed over.
 cut-passes : (k : ℕ) (passed rest : List ℕ) → k ≡ length passed → cutFrom k (passed ++ rest) ≡ cut rest
@@ -38,6 +39,12 @@ cut-next (b ∷ f) rest w =
     let more : 11 + lengthOf (b ∷ (f ++ rest)) ≡ length f = omega arith in
     let first : take (12 + lengthOf (b ∷ (f ++ rest))) (b ∷ (f ++ rest)) ≡ b ∷ f = take-at (b ∷ f) rest _ (sym size) in
     rw (first, cut-passes _ f rest more)
+
+-- Frames one behind the other are cut into the same frames again.
+pub cut-again : (fs : List (List ℕ)) → AllOf Frame fs → cut (behindEachOther fs) ≡ fs
+unfolding cutFrom behindEachOther
+cut-again [] w = refl
+cut-again (f ∷ fs) w = cut-next f (behindEachOther fs) (w .0) ∙ ap (λ (l : List (List ℕ)). f ∷ l) (cut-again fs (w .1))
 
 -- Bytes that a frame begins, behind which frames stand end to end.
 pub record Fronted (bytes : List ℕ) : Type 0 where

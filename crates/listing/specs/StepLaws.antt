@@ -4,7 +4,7 @@ use Prim.Native.Nat.{ℕ, _+_, _*_, _≤_, _<_}
 use mathlib.Core.Path.{_≡_, refl, ap, sym, subst, _∙_}
 use mathlib.Core.Logic.{_⊎_, inl, inr}
 use mathlib.Core.Bool.{Bool, true, false}
-use mathlib.Core.List.{List, [], _∷_}
+use mathlib.Core.List.{List}
 use native.Mathlib.Omega.{arith}
 use lib.ListN.{length, take, length-append}
 use lib.Seq.{take-at, length-take-le}
@@ -13,10 +13,9 @@ use borrow.Author.Tests.{le-leb, lt-leb, leb-true, leb-false, ne-eqb}
 use Rattle.laws.specs.Memory.{Outcome, outcome, over}
 use Rattle.laws.specs.MemoryLaws.{over-length}
 use Rattle.laws.specs.TestLaws.{pick-cases, pick-same}
-use Rattle.frame.specs.EndToEnd.{EndToEnd, cutFrom, cut}
-use Rattle.frame.specs.EndToEndLaws.{cut-next}
-use Rattle.line_terms.specs.Places.{Found, joined, framesOf}
-use Rattle.line_terms.specs.FoundFrames.{AllFrames, scan-frames, joined-end-to-end}
+use Rattle.frame.specs.EndToEnd.{EndToEnd, cut}
+use Rattle.line_terms.specs.Places.{joined, framesOf}
+use Rattle.line_terms.specs.FoundFrames.{AllFrames, scan-frames, joined-end-to-end, cut-joined}
 use Rattle.line_block.specs.Drain.{symbols, readingFrom}
 use Rattle.line_block.specs.Block.{blockReading}
 use Rattle.line_block.specs.BlockLaws.{block-few, rest-most}
@@ -37,12 +36,6 @@ none-end read e = subst (λ (n : ℕ). isEnd n ≡ true) (sym e) refl
 pub some-no-end : (read : ℕ) → 0 < read → isEnd read ≡ false
 unfolding isEnd
 some-no-end read h = ne-eqb read 0 (λ z. omega arith)
-
--- Frames joined are cut into the same frames again.
-cut-joined : (fs : List Found) → AllFrames fs → cut (joined fs) ≡ framesOf fs
-unfolding cutFrom joined framesOf
-cut-joined [] w = refl
-cut-joined (f ∷ fs) w = cut-next (f .frame) (joined fs) (w .0) ∙ ap (λ (l : List (List ℕ)). f .frame ∷ l) (cut-joined fs (w .1))
 
 -- The frames of a block.
 module _ (block : List ℕ) (ended : Bool) where

@@ -8,6 +8,7 @@ use lib.ListN.{length}
 use Rattle.laws.specs.All.{AllOf}
 use Rattle.laws.specs.Memory.{outcome}
 use Rattle.frame.specs.Frame.{Frame}
+use Rattle.frame.specs.EndToEnd.{behindEachOther}
 use Rattle.line_terms.specs.Line as line
 use Rattle.line_terms.specs.Line.{Symbol}
 use Rattle.line.specs.Receiver.{fresh, called}
@@ -19,7 +20,7 @@ use Rattle.meter.specs.declared.Answered.{Answered}
 use Rattle.meter.specs.declared.Counted.{Counted}
 use Rattle.meter.specs.declared.KeySet.{KeySet}
 use Rattle.meter.specs.declared.Meter.{Meter}
-use Rattle.replay_frames.specs.Putting.{behindEachOther, replyIn}
+use Rattle.replay_frames.specs.Putting.{replyIn}
 use Rattle.trace.specs.declared.TraceRecord.{TraceRecord}
 use Rattle.trace.specs.declared.TraceRecord.the-variants.{Byte, Silence, Pulse, Key, Settle}
 use Rattle.replay.specs.Replay.{stateOf}

@@ -6,15 +6,13 @@ use native.Mathlib.Omega.{arith}
 use mathlib.Core.Bool.{Bool}
 use lib.ListN.{length, replicate, length-replicate}
 use lib.Seq.{take-append-seam}
-use Rattle.laws.specs.All.{AllOf}
 use Rattle.laws.specs.Memory.{Outcome, outcome, over}
-use Rattle.frame.specs.Frame.{Frame}
-use Rattle.frame.specs.EndToEnd.{cutFrom, cut}
-use Rattle.frame.specs.EndToEndLaws.{cut-next}
+use Rattle.frame.specs.EndToEnd.{cut}
+use Rattle.frame.specs.EndToEndLaws.{cut-again}
 use Rattle.line_terms.specs.Line as symbol
 use Rattle.line_terms.specs.Line.{Symbol}
-use Rattle.line_terms.specs.Places.{Found, joined, framesOf}
-use Rattle.line_terms.specs.FoundFrames.{AllFrames, scan-frames}
+use Rattle.line_terms.specs.Places.{joined, framesOf}
+use Rattle.line_terms.specs.FoundFrames.{AllFrames, scan-frames, found-behind, found-frames, cut-joined}
 use Rattle.line.specs.Receiver.{readingWith, keeping, delivered, called}
 use Rattle.line.specs.Demand3.{ReceiverCall, deliveredBy}
 use Rattle.line.specs.declared.Answer.the-variants.{Delivered}
@@ -28,32 +26,40 @@ use Rattle.meter.specs.declared.Answered.{Answered}
 use Rattle.meter.specs.declared.Counted.{Counted}
 use Rattle.meter.specs.declared.KeySet.{KeySet}
 use Rattle.meter.specs.declared.Meter.{Meter}
-use Rattle.replay_frames.specs.Putting.{behindEachOther, replyIn, put, replyTo, meterAfter, repliesTo}
+use Rattle.replay_frames.specs.Putting.{replyIn, put, replyTo, meterAfter, repliesTo}
 use Rattle.replay_frames.specs.PuttingLaws.{put-sized}
 use Rattle.replay_frames.specs.PutLent.{put-lent}
 use Rattle.trace.specs.declared.TraceRecord.{TraceRecord}
 use Rattle.trace.specs.declared.TraceRecord.the-variants.{Byte, Silence, Pulse, Key, Settle}
 use Rattle.replay.specs.Replay.{Play, stateOf, countedIn, heardPlay, hostCall, played}
-use Rattle.replay.specs.ByHand.{AnswerCall, AnswerCalls, meterLeft, framesIn, repliesIn, Hears, HandTurn, heard, counted, keyed, turned, ByHand, done, byte, silence, pulse, key, settle, stateLeft, framesOfTurn, repliesOfTurn, framesPutIn, repliesGiven, spelledBy}
+use Rattle.replay.specs.ByHand.{
+  AnswerCall,
+  AnswerCalls,
+  meterLeft,
+  framesIn,
+  repliesIn,
+  Hears,
+  HandTurn,
+  heard,
+  counted,
+  keyed,
+  turned,
+  ByHand,
+  done,
+  byte,
+  silence,
+  pulse,
+  key,
+  settle,
+  stateLeft,
+  framesOfTurn,
+  repliesOfTurn,
+  framesPutIn,
+  repliesGiven,
+  spelledBy,
+}
 use Rattle.replay.specs.StateLaws.{Fit, heard-call, played-fit, playedAll}
 use Rattle.replay.specs.declared.ReplayState.{ReplayState}
-
--- Frames one behind the other are cut into the same frames again.
-pub cut-again : (fs : List (List ℕ)) → AllOf Frame fs → cut (behindEachOther fs) ≡ fs
-unfolding cutFrom behindEachOther
-cut-again [] w = refl
-cut-again (f ∷ fs) w = cut-next f (behindEachOther fs) (w .0) ∙ ap (λ (l : List (List ℕ)). f ∷ l) (cut-again fs (w .1))
-
--- Frames found, without their places, one behind the other.
-pub found-behind : (fs : List Found) → behindEachOther (framesOf fs) ≡ joined fs
-unfolding behindEachOther framesOf joined
-found-behind [] = refl
-found-behind (f ∷ fs) = ap (λ (l : List ℕ). f .frame ++ l) (found-behind fs)
-
-pub found-frames : (fs : List Found) → AllFrames fs → AllOf Frame (framesOf fs)
-unfolding framesOf
-found-frames [] w = tt
-found-frames (f ∷ fs) w = (w .0, found-frames fs (w .1))
 
 -- What a receiver with one symbol more reads are frames.
 pub reading-frames : (r : Receiver) (x : Symbol) → AllFrames (readingWith r x .frames)
@@ -73,7 +79,8 @@ answers-same m forward reverse (c ∷ cs) sized h =
     let lent = put-lent (c .bytes) m forward reverse sized (c .lent) (h .0) in
     let returned : c .returned ≡ put (c .bytes) m forward reverse .answer = ap (λ (o : Outcome Answered). o .answer) (h .1) ∙ lent .0 in
     let left : c .left ≡ answered (c .bytes) m forward reverse (c .lent) .memory = ap (λ (o : Outcome Answered). o .memory) (h .1) in
-    let reply : replyIn (c .returned .answer) (c .left) ≡ replyTo (c .bytes) m forward reverse = rw (ap (λ (o : Outcome Answered). o .answer) (h .1), left) (lent .1) in
+    let reply : replyIn (c .returned .answer) (c .left) ≡ replyTo (c .bytes) m forward reverse =
+    rw (ap (λ (o : Outcome Answered). o .answer) (h .1), left) (lent .1) in
     let more = answers-same (put (c .bytes) m forward reverse .answer .meter) forward reverse cs (put-sized (c .bytes) m forward reverse sized)
     (subst (λ (a : Answered). AnswerCalls (a .meter) forward reverse cs) returned (h .2)) in
     record {
@@ -94,13 +101,13 @@ unfolding heardPlay delivered
 hears-same {s = s} {x = x} {c = c} {calls = calls} f h =
     let reading = readingWith (s .receiver) x in
     let e : outcome (c .returned) (c .left) ≡ delivered reading (s .receiver) (c .lent) = h .call ∙ heard-call (f .received) x (c .lent) (h .room) in
-    let answer : c .returned .answer ≡ Delivered (length (joined (reading .frames))) (length (reading .frames)) = ap (λ (o : Outcome Received). o .answer .answer) e in
+    let answer : c .returned .answer ≡ Delivered (length (joined (reading .frames))) (length (reading .frames)) =
+    ap (λ (o : Outcome Received). o .answer .answer) e in
     let receiver : c .returned .receiver ≡ keeping (reading .kept) (s .receiver) = ap (λ (o : Outcome Received). o .answer .receiver) e in
     let left : c .left ≡ over (joined (reading .frames)) (c .lent) = ap (λ (o : Outcome Received). o .memory) e in
     let handed : deliveredBy (c .returned .answer) (c .left) ≡ joined (reading .frames) = rw (answer, left) (take-append-seam (joined (reading .frames)) _) in
     let same : framesIn calls ≡ framesOf (reading .frames) =
-    sym (cut-again (framesIn calls) (h .frames)) ∙ ap cut (h .handed-on ∙ handed ∙ sym (found-behind (reading .frames)))
-    ∙ cut-again (framesOf (reading .frames)) (found-frames (reading .frames) (reading-frames (s .receiver) x)) in
+    sym (cut-again (framesIn calls) (h .frames)) ∙ ap cut (h .handed-on ∙ handed) ∙ cut-joined (reading .frames) (reading-frames (s .receiver) x) in
     let put = answers-same (s .meter) (s .energies .forward) (s .energies .reverse) calls (f .sized) (h .answers) in
     record {
       state = rw (receiver, put .meter, same);
@@ -125,7 +132,8 @@ hand-next {s} {rs} {t} {turns} r first more =
     }
 
 -- The state after a turn is the state after its record.
-turn-fit : {line : List Symbol} {s : ReplayState} {t : HandTurn} (r : TraceRecord) → Fit line s → SameTurn s t (played r s) → Fit (line ++ spelledBy r) (turned s t)
+turn-fit : {line : List Symbol} {s : ReplayState} {t : HandTurn} (r : TraceRecord) → Fit line s → SameTurn s t (played r s) →
+    Fit (line ++ spelledBy r) (turned s t)
 turn-fit r f same = subst (Fit _) (sym (same .state)) (played-fit f r)
 
 -- The calls of the host.
@@ -194,7 +202,8 @@ made-hears {s = s} f x =
     let reading = readingWith (s .receiver) x in
     let room : 212 ≤ length {A = ℕ} (replicate 212 0) = omega (arith, length-replicate {A = ℕ} 212 0) in
     let e : called x (s .receiver) (replicate 212 0) ≡ delivered reading (s .receiver) (replicate 212 0) = heard-call (f .received) x (replicate 212 0) room in
-    let fs : framesIn (madeTurn x s) ≡ framesOf (reading .frames) = made-frames (s .meter) (s .energies .forward) (s .energies .reverse) (framesOf (reading .frames)) in
+    let fs : framesIn (madeTurn x s) ≡ framesOf (reading .frames) =
+    made-frames (s .meter) (s .energies .forward) (s .energies .reverse) (framesOf (reading .frames)) in
     record {
       symbol = refl;
       room = room;

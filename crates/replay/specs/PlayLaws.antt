@@ -2,7 +2,7 @@
 -- to the meter, is what the symbol comes to.
 use Prim.Native.Nat.{ℕ, _+_, _*_, _≤_}
 use native.Mathlib.Omega.{arith}
-use mathlib.Core.Path.{_≡_, refl, sym, ap, _∙_}
+use mathlib.Core.Path.{_≡_, refl, ap, _∙_}
 use mathlib.Core.Bool.{Bool, true, false, false≢true, _&&_}
 use mathlib.Core.List.{List, [], _∷_, _++_, map}
 use lib.ListN.{length, take, length-take}
@@ -15,6 +15,7 @@ use Rattle.line_verdict.specs.VerdictOnLaws.{within-most}
 use Rattle.line_terms.specs.Line.{Symbol, byte, silence}
 use Rattle.line_terms.specs.Places.{joined, framesOf}
 use Rattle.line_terms.specs.FramesFew.{bytesIn, frames-few}
+use Rattle.line_terms.specs.FoundFrames.{cut-joined}
 use Rattle.line.specs.Receiver.{keptBytes, withinRange, readingWith, keeping, delivered, called}
 use Rattle.line.specs.declared.Receiver.{Receiver}
 use Rattle.line.specs.declared.Received.{Received}
@@ -31,13 +32,14 @@ use Rattle.trace.specs.declared.TraceRecord.{TraceRecord}
 use Rattle.trace.specs.declared.TraceRecord.the-variants.{Byte, Silence, Pulse, Key, Settle}
 use Rattle.replay.specs.Replay.{Play, stateOf, isWithin, heardPlay, hostPlay, played, steppedWith, playedStep}
 use Rattle.replay.specs.Play.{quiet, playedOutcome, CanPut, deliveredPlay}
-use Rattle.replay.specs.ByHandLaws.{cut-again, found-behind, found-frames, reading-frames}
+use Rattle.replay.specs.ByHandLaws.{reading-frames}
 use Rattle.replay.specs.declared.ReplayState.{ReplayState}
 use Rattle.replay.specs.declared.play.Played.{Played}
 use Rattle.replay.specs.declared.StepAnswer.the-variants as step
 
 -- Both tests of the ranges hold.
-pub both-within : (s : ReplayState) → isWithin s ≡ true → (withinRange (s .receiver) ≡ true) × (withinRanges (s .meter) (s .energies .forward) (s .energies .reverse) ≡ true)
+pub both-within : (s : ReplayState) → isWithin s ≡ true →
+    (withinRange (s .receiver) ≡ true) × (withinRanges (s .meter) (s .energies .forward) (s .energies .reverse) ≡ true)
 unfolding isWithin
 both-within s e = go (withinRange (s .receiver)) (withinRanges (s .meter) (s .energies .forward) (s .energies .reverse)) e
   where
@@ -49,7 +51,9 @@ both-within s e = go (withinRange (s .receiver)) (withinRanges (s .meter) (s .en
 -- A receiver within its range, with one symbol more, delivers at most 212 bytes.
 pub delivers-most : (r : Receiver) (x : Symbol) → withinRange r ≡ true → length (joined (readingWith r x .frames)) ≤ 212
 unfolding readingWith keptBytes bytesIn
-delivers-most r x within = omega (arith, frames-few (map byte (take (r .count) (r .kept)) ++ (x ∷ [])), one-more (take (r .count) (r .kept)) x, few, within-most (r .kept) (r .count) within)
+delivers-most r x within =
+    let kept = take (r .count) (r .kept) in
+    omega (arith, frames-few (map byte kept ++ (x ∷ [])), one-more kept x, few, within-most (r .kept) (r .count) within)
   where
     one-more : (l : List ℕ) (x : Symbol) → bytesIn (map byte l ++ (x ∷ [])) ≤ length l + 1
     one-more [] (byte b) = omega arith
@@ -64,7 +68,7 @@ heard-fits : (s : ReplayState) (x : Symbol) → isWithin s ≡ true → MeterSiz
 unfolding heardPlay
 heard-fits s x within sized =
     let fs = readingWith (s .receiver) x .frames in
-    let cuts : cut (joined fs) ≡ framesOf fs = ap cut (sym (found-behind fs)) ∙ cut-again (framesOf fs) (found-frames fs (reading-frames (s .receiver) x)) in
+    let cuts : cut (joined fs) ≡ framesOf fs = cut-joined fs (reading-frames (s .receiver) x) in
     let text : length (linesOf (repliesTo (framesOf fs) (s .meter) (s .energies .forward) (s .energies .reverse))) ≤ 35 * length (joined fs) =
     rw cuts at (all-text (joined fs) (s .meter) (s .energies .forward) (s .energies .reverse) sized) in
     omega (arith, text, delivers-most (s .receiver) x (both-within s within .0))
@@ -81,7 +85,8 @@ text-fits Settle s within sized = omega arith
 -- Frames put to a meter within its ranges, with room.
 pub record Puts (fs : List (List ℕ)) (m : Meter) (energies : Energies) (lent : List ℕ) (put : FramesPut) (left : List ℕ) : Type 0 where
   pub meter : put .meter ≡ meterAfter fs m (energies .forward) (energies .reverse)
-  pub answer : put .answer ≡ Put (length (linesOf (repliesTo fs m (energies .forward) (energies .reverse)))) (length (repliesTo fs m (energies .forward) (energies .reverse)))
+  pub answer : put .answer
+      ≡ Put (length (linesOf (repliesTo fs m (energies .forward) (energies .reverse)))) (length (repliesTo fs m (energies .forward) (energies .reverse)))
   pub memory : left ≡ over (linesOf (repliesTo fs m (energies .forward) (energies .reverse))) lent
 
 pub frames-puts : {m : Meter} {energies : Energies} {memory left : List ℕ} {put : FramesPut} (bytes : List ℕ) →
@@ -89,7 +94,8 @@ pub frames-puts : {m : Meter} {energies : Energies} {memory left : List ℕ} {pu
     outcome put left ≡ framesPut bytes m energies memory → Puts (cut bytes) m energies memory put left
 unfolding framesPut allPut
 frames-puts {m} {energies} {memory} {left} {put} bytes within room e =
-    let all : outcome put left ≡ allPut (cut bytes) m (energies .forward) (energies .reverse) memory = e ∙ rw (within, le-leb (35 * length bytes) (length memory) room) in
+    let all : outcome put left ≡ allPut (cut bytes) m (energies .forward) (energies .reverse) memory =
+    e ∙ rw (within, le-leb (35 * length bytes) (length memory) room) in
     record {
       meter = ap (λ (o : Outcome FramesPut). o .answer .meter) all;
       answer = ap (λ (o : Outcome FramesPut). o .answer .answer) all;
@@ -125,16 +131,18 @@ module _ (x : Symbol) (r : Receiver) (lent : List ℕ) {received : Received} {fr
   call-cuts =
       let front : take (length (joined (readingWith r x .frames))) frames ≡ joined (readingWith r x .frames) =
       rw call-leaves (take-append-seam (joined (readingWith r x .frames)) _) in
-      ap cut (front ∙ sym (found-behind (readingWith r x .frames))) ∙ cut-again _ (found-frames _ (reading-frames r x))
+      ap cut front ∙ cut-joined _ (reading-frames r x)
 
   -- It can be put to a meter within its ranges, with 8,192 bytes for the lines: "at most 212 bytes delivered".
-  pub heard-can-put : (m : Meter) (energies : Energies) (memory : List ℕ) → withinRanges m (energies .forward) (energies .reverse) ≡ true → 8192 ≤ length memory →
+  pub heard-can-put : (m : Meter) (energies : Energies) (memory : List ℕ) → withinRanges m (energies .forward) (energies .reverse) ≡ true →
+      8192 ≤ length memory →
       CanPut (received .answer) m energies frames memory
   heard-can-put m energies memory ranges roomy =
       rw call-says (record { within = ranges; size = omega (arith, delivers-most r x within, call-size); room = omega (arith, delivers-most r x within) })
 
   -- Put to the meter, it is what the symbol comes to.
-  pub heard-delivered : (m : Meter) (energies : Energies) → deliveredPlay (received .answer) (received .receiver) m energies frames ≡ heardPlay x (stateOf r m energies)
+  pub heard-delivered : (m : Meter) (energies : Energies) →
+      deliveredPlay (received .answer) (received .receiver) m energies frames ≡ heardPlay x (stateOf r m energies)
   unfolding heardPlay
   heard-delivered m energies = rw (call-says, call-keeps, call-cuts)
 
@@ -142,7 +150,8 @@ module _ (x : Symbol) (r : Receiver) (lent : List ℕ) {received : Received} {fr
 pub played-as-step : {p : Played} {left : List ℕ} (q : Play) (next : ℕ) (m : List ℕ) → outcome p left ≡ playedOutcome q m →
     outcome (steppedWith (p .state) (step.Played (p .text) (p .lines) next)) left ≡ playedStep q next m
 unfolding playedOutcome playedStep
-played-as-step q next m e = ap (λ (o : Outcome Played). outcome (steppedWith (o .answer .state) (step.Played (o .answer .text) (o .answer .lines) next)) (o .memory)) e
+played-as-step q next m e =
+    ap (λ (o : Outcome Played). outcome (steppedWith (o .answer .state) (step.Played (o .answer .text) (o .answer .lines) next)) (o .memory)) e
 
 -- The lines of a record that nothing is replied to.
 pub quiet-outcome : (s : ReplayState) (m : List ℕ) → outcome (quiet s) m ≡ playedOutcome (hostPlay s) m

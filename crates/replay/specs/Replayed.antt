@@ -8,7 +8,7 @@ use lib.ListN.{length, take, drop, length-append, length-drop}
 use lib.Seq.{take-append-seam, take-add}
 use Rattle.laws.specs.All.{AllOf}
 use Rattle.laws.specs.AllLaws.{all-drop, all-append}
-use Rattle.laws.specs.Memory.{outcome, over, IsByte, Bytes}
+use Rattle.laws.specs.Memory.{outcome, IsByte, Bytes}
 use Rattle.line_terms.specs.Line.{Symbol, Certain}
 use Rattle.line_terms.specs.Places.{framesOf, Exactly}
 use Rattle.line_terms.specs.Scan.{scan}
@@ -20,13 +20,13 @@ use Rattle.trace.specs.Records.{FieldsRight, recordBytes, written}
 use Rattle.trace.specs.Trace.{frontOf}
 use Rattle.trace.specs.declared.Front.the-variants.{Good as GoodRecord}
 use Rattle.trace.specs.declared.TraceRecord.{TraceRecord}
-use Rattle.trace.specs.TraceLaws.{good-bytes, good-within}
+use Rattle.trace.specs.TraceLaws.{good-bytes, good-within, written-append}
 use Rattle.replay.specs.Replay.{started, stepped, played, steppedWith, Unplayed}
 use Rattle.replay.specs.ByHand.{HandTurn, ByHand, handStart, stateLeft, framesPutIn, repliesGiven, spelled}
 use Rattle.replay.specs.StateLaws.{Fit, fit-within, start-fit, playedAll, all-fit, all-frames, all-then, all-one}
 use Rattle.replay.specs.ByHandLaws.{SomeHand, some-hand, hand-same}
 use Rattle.replay.specs.StepLaws.{Stepping, outside, ends, declines, bad, plays, stepping}
-use Rattle.replay.specs.StepWords.{within-iff, StepWords, step-words}
+use Rattle.replay.specs.StepWords.{InRanges, within-iff, StepWords, step-words}
 use Rattle.replay.specs.declared.ReplayState.{ReplayState}
 use Rattle.replay.specs.declared.Stepped.{Stepped}
 use Rattle.replay.specs.declared.StepAnswer.{StepAnswer}
@@ -92,6 +92,17 @@ abbrev pub linesAfter : List StepCall → ℕ
 linesAfter [] = 0
 linesAfter (c ∷ cs) = linesBy (c .returned .answer) + linesAfter cs
 
+-- How many records an answer says were played, one or none; and all of them.
+abbrev pub playsBy : StepAnswer → ℕ
+playsBy Done = 0
+playsBy (Refused n) = 0
+playsBy (BadRecord n place) = 0
+playsBy (Played text lines next) = 1
+
+abbrev pub playsAfter : List StepCall → ℕ
+playsAfter [] = 0
+playsAfter (c ∷ cs) = playsBy (c .returned .answer) + playsAfter cs
+
 -- What holds of a step at a place of a trace: it is never refused with 16, and says and leaves what document 02's words are for it; one that played no
 -- record changed nothing.
 pub record StepIsRight (trace : List ℕ) (at : ℕ) (s : ReplayState) (c : StepCall) : Type 0 where
@@ -100,13 +111,15 @@ pub record StepIsRight (trace : List ℕ) (at : ℕ) (s : ReplayState) (c : Step
 
 -- What holds of a list of steps from the start of an address.
 pub record Replays (address trace : List ℕ) (calls : List StepCall) : Type 1 where
-  -- the records played, which are those of the trace up to the place
+  -- the records played, which are those of the trace up to the place, and as many as the answers say
   pub records : List TraceRecord
   pub right : AllOf FieldsRight records
   pub reached : placeAfter 0 calls ≤ length trace
   pub up-to : take (placeAfter 0 calls) trace ≡ written records
-  -- all text joined, and the receiver, the meter and the readings; and the number of lines
+  pub plays : playsAfter calls ≡ length records
+  -- all text joined, and the receiver, the meter and the readings, which are within their ranges; and the number of lines
   pub by-hand : PlayedByHand (handStart address) records (textAfter calls) (stateAfter (handStart address) calls)
+  pub within : InRanges (stateAfter (handStart address) calls)
   pub lines : (turns : List HandTurn) → ByHand (handStart address) records turns → linesAfter calls ≡ length (repliesGiven turns)
   -- each step
   pub each : (earlier : List StepCall) (c : StepCall) (later : List StepCall) → calls ≡ earlier ++ (c ∷ later) →
@@ -125,48 +138,59 @@ played-by-hand {s} records f text after =
       frames-put = λ turns h. hand-same f h .frames ∙ sym (all-frames records f);
     }
 
--- Records written, and then more.
-written-append : (rs more : List TraceRecord) → written (rs ++ more) ≡ written rs ++ written more
-unfolding written
-written-append [] more = refl
-written-append (r ∷ rs) more = rw (written-append rs more) (sym (append-assoc (recordBytes r) (written rs) (written more)))
-
--- How far steps have come: from a place on records were played, up to another, and came to this text of so many lines and this state.
-pub record Came (trace : List ℕ) (at : ℕ) (s : ReplayState) (to : ℕ) (text : List ℕ) (lines : ℕ) (after : ReplayState) : Type 0 where
+-- How far steps have come: from a place on records were played, up to another, so many of them, and came to this text of so many lines and this state.
+pub record Came (trace : List ℕ) (at : ℕ) (s : ReplayState) (to : ℕ) (text : List ℕ) (plays lines : ℕ) (after : ReplayState) : Type 0 where
   pub records : List TraceRecord
   pub right : AllOf FieldsRight records
   pub reached : to ≤ length trace
   pub up-to : take to trace ≡ take at trace ++ written records
+  pub plays-same : plays ≡ length records
   pub text-same : text ≡ linesOf (playedAll records s .replies)
   pub state-same : after ≡ playedAll records s .state
   pub lines-same : lines ≡ length (playedAll records s .replies)
 
-came-nowhere : (trace : List ℕ) (at : ℕ) (s : ReplayState) → at ≤ length trace → Came trace at s at [] 0 s
+came-nowhere : (trace : List ℕ) (at : ℕ) (s : ReplayState) → at ≤ length trace → Came trace at s at [] 0 0 s
 unfolding written linesOf playedAll
 came-nowhere trace at s within =
-    record { records = []; right = tt; reached = within; up-to = sym (append-nil (take at trace)); text-same = refl; state-same = refl; lines-same = refl }
-
-came-then : {trace : List ℕ} {at to last : ℕ} {s next after : ReplayState} {text more : List ℕ} {lines others : ℕ} → Came trace at s to text lines next →
-    Came trace to next last more others after → Came trace at s last (text ++ more) (lines + others) after
-came-then {trace} {at} {to} {last} {s} {next} {after} {text} {more} {lines} {others} a b =
-    let then = all-then (a .records) (b .records) s in
     record {
-      records = a .records ++ b .records;
-      right = all-append FieldsRight (a .records) (b .records) (a .right) (b .right);
+      records = [];
+      right = tt;
+      reached = within;
+      up-to = sym (append-nil (take at trace));
+      plays-same = refl;
+      text-same = refl;
+      state-same = refl;
+      lines-same = refl;
+    }
+
+came-then : {trace : List ℕ} {at to last : ℕ} {s next after : ReplayState} {text more : List ℕ} {plays others lines further : ℕ} →
+    Came trace at s to text plays lines next → Came trace to next last more others further after →
+    Came trace at s last (text ++ more) (plays + others) (lines + further) after
+came-then {trace} {at} {to} {last} {s} {next} {after} {text} {more} a b =
+    let rs = a .records in
+    let ss = b .records in
+    let then = all-then rs ss s in
+    let given : List (List ℕ) = playedAll rs s .replies in
+    record {
+      records = rs ++ ss;
+      right = all-append FieldsRight rs ss (a .right) (b .right);
       reached = b .reached;
-      up-to = b .up-to ∙ ap (λ (l : List ℕ). l ++ written (b .records)) (a .up-to) ∙ append-assoc (take at trace) (written (a .records)) (written (b .records))
-          ∙ ap (λ (l : List ℕ). take at trace ++ l) (sym (written-append (a .records) (b .records)));
-      text-same = (λ i. a .text-same i ++ b .text-same i) ∙ (λ i. linesOf (playedAll (a .records) s .replies) ++ linesOf (playedAll (b .records) (a .state-same i) .replies))
-          ∙ sym (lines-append (playedAll (a .records) s .replies) (playedAll (b .records) (playedAll (a .records) s .state) .replies)) ∙ ap linesOf (sym (then .replies));
-      state-same = b .state-same ∙ ap (λ (x : ReplayState). playedAll (b .records) x .state) (a .state-same) ∙ sym (then .state);
-      lines-same = (λ i. a .lines-same i + b .lines-same i)
-          ∙ (λ i. length (playedAll (a .records) s .replies) + length (playedAll (b .records) (a .state-same i) .replies))
-          ∙ sym (length-append (playedAll (a .records) s .replies) _) ∙ ap length (sym (then .replies));
+      up-to =
+          b .up-to ∙ ap (λ (l : List ℕ). l ++ written ss) (a .up-to) ∙ append-assoc (take at trace) (written rs) (written ss)
+          ∙ ap (λ (l : List ℕ). take at trace ++ l) (sym (written-append rs ss));
+      plays-same = omega (arith, a .plays-same, b .plays-same, length-append rs ss);
+      text-same =
+          (λ i. a .text-same i ++ b .text-same i) ∙ (λ i. linesOf given ++ linesOf (playedAll ss (a .state-same i) .replies))
+          ∙ sym (lines-append given (playedAll ss (playedAll rs s .state) .replies)) ∙ ap linesOf (sym (then .replies));
+      state-same = b .state-same ∙ ap (λ (x : ReplayState). playedAll ss x .state) (a .state-same) ∙ sym (then .state);
+      lines-same =
+          (λ i. a .lines-same i + b .lines-same i) ∙ (λ i. length given + length (playedAll ss (a .state-same i) .replies))
+          ∙ sym (length-append given _) ∙ ap length (sym (then .replies));
     }
 
 -- A good record at a place, played.
-came-one : {r : TraceRecord} {n : ℕ} (trace : List ℕ) (at : ℕ) (s : ReplayState) → Bytes trace → at ≤ length trace → frontOf (drop at trace) ≡ GoodRecord r n →
-    Came trace at s (at + n) (linesOf (played r s .replies)) (length (played r s .replies)) (played r s .state)
+came-one : {r : TraceRecord} {n : ℕ} (trace : List ℕ) (at : ℕ) (s : ReplayState) → Bytes trace → at ≤ length trace →
+    frontOf (drop at trace) ≡ GoodRecord r n → Came trace at s (at + n) (linesOf (played r s .replies)) 1 (length (played r s .replies)) (played r s .state)
 unfolding written
 came-one {r} {n} trace at s bytes within there =
     let good = good-bytes (drop at trace) (all-drop IsByte at trace bytes) there in
@@ -177,6 +201,7 @@ came-one {r} {n} trace at s bytes within there =
       right = (good .fields, tt);
       reached = omega (arith, length-drop at trace);
       up-to = take-add at n trace ∙ ap (λ (l : List ℕ). take at trace ++ l) (good .bytes ∙ sym (append-nil (recordBytes r)));
+      plays-same = refl;
       text-same = ap linesOf (sym (one .replies));
       state-same = sym (one .state);
       lines-same = ap length (sym (one .replies));
@@ -186,7 +211,9 @@ came-one {r} {n} trace at s bytes within there =
 module _ {at : ℕ} {line : List Symbol} {s : ReplayState} (trace : List ℕ) (c : StepCall) (bytes : Bytes trace) (within : at ≤ length trace) (f : Fit line s)
     (h : outcome (c .returned) (c .left) ≡ stepped trace at s (c .lent)) where
   abbrev CameBy : Type 0
-  CameBy = Came trace at s (placeBy (c .returned .answer) at) (textBy (c .returned .answer) (c .left)) (linesBy (c .returned .answer)) (c .returned .state)
+  CameBy =
+      Came trace at s (placeBy (c .returned .answer) at) (textBy (c .returned .answer) (c .left)) (playsBy (c .returned .answer))
+      (linesBy (c .returned .answer)) (c .returned .state)
 
   step-came : CameBy
   step-came = go (stepping h)
@@ -211,13 +238,12 @@ module _ {at : ℕ} {line : List Symbol} {s : ReplayState} (trace : List ℕ) (c
       record { within = λ r. words .sixteen .0 r (within-iff s .0 (fit-within f)); words = words }
 
 -- A state that records have led to is fit.
-came-fit : {trace : List ℕ} {at to lines : ℕ} {line : List Symbol} {s after : ReplayState} {text : List ℕ} → Fit line s →
-    (came : Came trace at s to text lines after) →
-    Fit (line ++ spelled (came .records)) after
+came-fit : {trace : List ℕ} {at to plays lines : ℕ} {line : List Symbol} {s after : ReplayState} {text : List ℕ} → Fit line s →
+    (came : Came trace at s to text plays lines after) → Fit (line ++ spelled (came .records)) after
 came-fit f came = subst (Fit _) (sym (came .state-same)) (all-fit (came .records) f)
 
 steps-came : {at : ℕ} {line : List Symbol} {s : ReplayState} (trace : List ℕ) (calls : List StepCall) → Bytes trace → at ≤ length trace → Fit line s →
-    Steps trace at s calls → Came trace at s (placeAfter at calls) (textAfter calls) (linesAfter calls) (stateAfter s calls)
+    Steps trace at s calls → Came trace at s (placeAfter at calls) (textAfter calls) (playsAfter calls) (linesAfter calls) (stateAfter s calls)
 steps-came trace [] bytes within f h = came-nowhere trace _ _ within
 steps-came trace (c ∷ cs) bytes within f h =
     let first = step-came trace c bytes within f (h .0) in
@@ -242,7 +268,9 @@ replayed-by-hand address trace calls six good bytes h =
       right = came .right;
       reached = came .reached;
       up-to = came .up-to;
+      plays = came .plays-same;
       by-hand = played-by-hand (came .records) f (came .text-same) (came .state-same);
+      within = within-iff _ .0 (fit-within (came-fit f came));
       lines = λ turns hand. came .lines-same ∙ ap length (sym (hand-same f hand .replies));
       each = λ earlier c later e.
           let parts = steps-split trace 0 (started address .state) earlier (c ∷ later) (subst (Steps trace 0 (started address .state)) e h) in

@@ -1,5 +1,5 @@
 -- A trace of good records, stepped with memory enough: as many steps as it has records play one each, and every step after them answers done.
-use Prim.Native.Nat.{ℕ, _+_, _≤_, _<_}
+use Prim.Native.Nat.{ℕ, _≤_, _<_}
 use native.Mathlib.Omega.{arith}
 use mathlib.Core.Path.{_≡_, refl, sym, ap, subst, _∙_}
 use mathlib.Core.Bool.{true≢false}
@@ -94,7 +94,8 @@ behind [] = []
 behind (r ∷ rs) = rs
 
 step-left : {at : ℕ} {s : ReplayState} (trace : List ℕ) (rs : List TraceRecord) (c : StepCall) → AllOf FieldsRight rs → IsEnough c →
-    outcome (c .returned) (c .left) ≡ stepped trace at s (c .lent) → Left trace at s rs → Left trace (placeBy (c .returned .answer) at) (c .returned .state) (behind rs)
+    outcome (c .returned) (c .left) ≡ stepped trace at s (c .lent) → Left trace at s rs →
+    Left trace (placeBy (c .returned .answer) at) (c .returned .state) (behind rs)
 unfolding written
 step-left trace [] c right enough h l =
     let r = rests trace c (l .fit) enough h (l .there) in
@@ -160,15 +161,16 @@ steps-done address records calls six good right enough h =
     room : (earlier : List StepCall) (c : StepCall) (later : List StepCall) → calls ≡ earlier ++ (c ∷ later) → IsEnough c
     room earlier c later e = all-at IsEnough earlier c later (subst (AllOf IsEnough) e enough)
 
-    some : (earlier : List StepCall) (c : StepCall) (later : List StepCall) → calls ≡ earlier ++ (c ∷ later) → (rs : List TraceRecord) → leftOf earlier records ≡ rs →
-        (rs ≡ [] → ⊥) → Unplayed (c .returned .answer) → ⊥
+    some : (earlier : List StepCall) (c : StepCall) (later : List StepCall) → calls ≡ earlier ++ (c ∷ later) → (rs : List TraceRecord) →
+        leftOf earlier records ≡ rs → (rs ≡ [] → ⊥) → Unplayed (c .returned .answer) → ⊥
     some earlier c later e [] same not u = not refl
     some earlier c later e (r ∷ rs) same not u =
         let l = left earlier c later e in
         advances trace c (l .fit) (room earlier c later e) (parts earlier c later e .1 .0) r rs
         (subst (AllOf FieldsRight) same (left-right earlier records right) .0) (l .there ∙ ap written same) .plays u
 
-    none : (earlier : List StepCall) (c : StepCall) (later : List StepCall) → calls ≡ earlier ++ (c ∷ later) → leftOf earlier records ≡ [] → c .returned .answer ≡ Done
+    none : (earlier : List StepCall) (c : StepCall) (later : List StepCall) → calls ≡ earlier ++ (c ∷ later) → leftOf earlier records ≡ [] →
+        c .returned .answer ≡ Done
     none earlier c later e same =
         let l = left earlier c later e in
         rests trace c (l .fit) (room earlier c later e) (parts earlier c later e .1 .0) (l .there ∙ ap written same) .answer

@@ -49,8 +49,8 @@ step-refuses trace at s m = go (stepping refl)
     P : Stepped → List ℕ → Type 0
     P returned left = Refuses {S = ReplayState × List ℕ} (stepSaid (returned .answer)) (CannotStep trace at s m) (s, m) (returned .state, left)
 
-    is : {returned : Stepped} {left : List ℕ} {answer : StepAnswer} {memory : List ℕ} {after : ReplayState} → returned ≡ steppedWith after answer → left ≡ memory →
-        P (steppedWith after answer) memory → P returned left
+    is : {returned : Stepped} {left : List ℕ} {answer : StepAnswer} {memory : List ℕ} {after : ReplayState} → returned ≡ steppedWith after answer →
+        left ≡ memory → P (steppedWith after answer) memory → P returned left
     is a l p = rw (a, l) p
 
     before : (frontOf (drop at trace) ≡ front.Ended → ⊥) → at < length trace

@@ -73,7 +73,12 @@ module _ {line : List Symbol} {s : ReplayState} (f : Fit line s) (x : Symbol) wh
       reading : LineReading
       reading = readingWith (s .receiver) x
 
-      go : Answers line x (s .receiver) memory (record { receiver = keeping (reading .kept) (s .receiver); answer = Delivered (length (joined (reading .frames))) (length (reading .frames)) }) (over (joined (reading .frames)) memory) →
+      go : Answers line x (s .receiver) memory
+          (record {
+            receiver = keeping (reading .kept) (s .receiver);
+            answer = Delivered (length (joined (reading .frames))) (length (reading .frames));
+          })
+          (over (joined (reading .frames)) memory) →
           HasReceived (line ++ (x ∷ [])) (keeping (reading .kept) (s .receiver))
       go (ignores short a r m) = absurd (omega (arith, room))
       go (delivers enough a h m) = h
@@ -143,7 +148,9 @@ pub all-frames : {line : List Symbol} {s : ReplayState} (rs : List TraceRecord) 
 unfolding playedAll
 all-frames {line} [] f = rw (append-nil line, append-nil)
 all-frames {line} {s} (r ∷ rs) f =
-    let more : framesOf (scan 0 0 (line ++ spelledBy r ++ spelled rs) .frames) ≡ framesOf (scan 0 0 (line ++ spelledBy r) .frames) ++ playedAll rs (played r s .state) .frames = all-frames rs (played-fit f r) in
+    let more : framesOf (scan 0 0 (line ++ spelledBy r ++ spelled rs) .frames)
+    ≡ framesOf (scan 0 0 (line ++ spelledBy r) .frames) ++ playedAll rs (played r s .state) .frames =
+    all-frames rs (played-fit f r) in
     rw (← append-assoc line (spelledBy r) (spelled rs), more, played-frames f r) (append-assoc (framesOf (scan 0 0 line .frames)) (played r s .frames) _)
 
 -- Records played and then more.

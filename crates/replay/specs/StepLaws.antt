@@ -55,12 +55,12 @@ short-step trace at s m within before short = go (frontOf (drop at trace)) refl
     go (front.Good r n) there = front-step trace at s m within there ∙ rw (lt-leb 8192 (length m) short)
 
 -- With memory enough.
-pub bad-step : {n : ℕ} (trace : List ℕ) (at : ℕ) (s : ReplayState) (m : List ℕ) → isWithin s ≡ true → frontOf (drop at trace) ≡ front.Refused n → 8192 ≤ length m →
-    stepped trace at s m ≡ outcome (steppedWith s (BadRecord n at)) m
+pub bad-step : {n : ℕ} (trace : List ℕ) (at : ℕ) (s : ReplayState) (m : List ℕ) → isWithin s ≡ true →
+    frontOf (drop at trace) ≡ front.Refused n → 8192 ≤ length m → stepped trace at s m ≡ outcome (steppedWith s (BadRecord n at)) m
 bad-step trace at s m within there room = front-step trace at s m within there ∙ rw (le-leb 8192 (length m) room)
 
-pub good-step : {r : TraceRecord} {n : ℕ} (trace : List ℕ) (at : ℕ) (s : ReplayState) (m : List ℕ) → isWithin s ≡ true → frontOf (drop at trace) ≡ front.Good r n →
-    8192 ≤ length m → stepped trace at s m ≡ playedStep (played r s) (at + n) m
+pub good-step : {r : TraceRecord} {n : ℕ} (trace : List ℕ) (at : ℕ) (s : ReplayState) (m : List ℕ) → isWithin s ≡ true →
+    frontOf (drop at trace) ≡ front.Good r n → 8192 ≤ length m → stepped trace at s m ≡ playedStep (played r s) (at + n) m
 good-step trace at s m within there room = front-step trace at s m within there ∙ rw (le-leb 8192 (length m) room)
 
 pub stepping : {trace : List ℕ} {at : ℕ} {s : ReplayState} {m : List ℕ} {returned : Stepped} {left : List ℕ} →

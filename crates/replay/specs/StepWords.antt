@@ -38,7 +38,8 @@ within-iff s = (
   λ w. rw (line.in-range-iff (s .receiver) .1 (w .receiver), meter.within-ranges (s .meter) (s .energies .forward) (s .energies .reverse) .1 (w .meter)),
 )
   where
-    both : (a b : Bool) → withinRange (s .receiver) ≡ a → withinRanges (s .meter) (s .energies .forward) (s .energies .reverse) ≡ b → (a && b) ≡ true → InRanges s
+    both : (a b : Bool) → withinRange (s .receiver) ≡ a → withinRanges (s .meter) (s .energies .forward) (s .energies .reverse) ≡ b → (a && b) ≡ true →
+        InRanges s
     both true true p q e =
         record { receiver = line.in-range-iff (s .receiver) .0 p; meter = meter.within-ranges (s .meter) (s .energies .forward) (s .energies .reverse) .0 q }
     both true false p q e = absurd (false≢true e)
@@ -62,7 +63,8 @@ pub record StepWords (trace : List ℕ) (at : ℕ) (s : ReplayState) (m : List �
   pub one : (returned .answer ≡ Refused 1) ↔ (InRanges s × (at < length trace) × (length m < 8192))
   pub others : (n : ℕ) → returned .answer ≡ Refused n → (n ≡ 16) ⊎ (n ≡ 1)
   -- then 9 or 10, by what stands there, with the place where the record begins
-  pub bad-record : (n place : ℕ) → (returned .answer ≡ BadRecord n place) ↔ (InRanges s × (8192 ≤ length m) × (place ≡ at) × (frontOf (drop at trace) ≡ front.Refused n))
+  pub bad-record : (n place : ℕ) →
+      (returned .answer ≡ BadRecord n place) ↔ (InRanges s × (8192 ≤ length m) × (place ≡ at) × (frontOf (drop at trace) ≡ front.Refused n))
   -- an answer that says that no record was played has changed nothing
   pub unplayed : Unplayed (returned .answer) → (returned .state ≡ s) × (left ≡ m)
   -- else a record is played: so many bytes and lines are its replies', the next place is behind it, and the memory beyond the lines stays as it was
@@ -147,7 +149,10 @@ step-words trace at s m returned left h = go (stepping h)
           done = (λ d. no-bad-done (answers a) d, λ (v, past). absurd (bad-no-end (sym e ∙ ended-iff trace at .1 past)));
           one = (λ r. no-bad (answers a) r, λ (v, before, short). absurd (omega arith));
           others = λ n r. no-bad (answers a) r;
-          bad-record = λ n place. (λ b. (ranges w, room, cc (answers a), cc (answers a, e)), λ (v, roomy, here, there). let same : k ≡ n = cc (e, there) in rw (here, ← same) (answers a));
+          bad-record = λ n place. (
+            λ b. (ranges w, room, cc (answers a), cc (answers a, e)),
+            λ (v, roomy, here, there). let same : k ≡ n = cc (e, there) in rw (here, ← same) (answers a),
+          );
           unplayed = λ u. (ap (λ (r : Stepped). r .state) a, l);
           plays-one = λ r n v roomy there. let z : _≡_ {A = ℕ} 0 1 = cc (e, there) in absurd (omega arith);
         }
@@ -157,7 +162,10 @@ step-words trace at s m returned left h = go (stepping h)
           done = (λ d. no-played-done (answers a) d, λ (v, past). absurd (good-no-end (sym e ∙ ended-iff trace at .1 past)));
           one = (λ r. no-played (answers a) r, λ (v, before, short). absurd (omega arith));
           others = λ n r. no-played (answers a) r;
-          bad-record = λ n place. (λ b. no-played-bad (answers a) b, λ (v, roomy, here, there). let z : _≡_ {A = ℕ} 0 1 = cc (e, there) in absurd (omega arith));
+          bad-record = λ n place. (
+            λ b. no-played-bad (answers a) b,
+            λ (v, roomy, here, there). let z : _≡_ {A = ℕ} 0 1 = cc (e, there) in absurd (omega arith),
+          );
           unplayed = λ u. absurd (subst (λ (t : Stepped). Unplayed (t .answer)) a u);
           plays-one = λ r n v roomy there. let same : r₁ ≡ r = cc (e, there) in let size : n₁ ≡ n = cc (e, there) in rw (← same, ← size) (a, l);
         }

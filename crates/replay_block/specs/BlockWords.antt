@@ -2,7 +2,7 @@
 use Prim.Native.Nat.{ℕ, _+_, _*_, _≤_, _<_}
 use native.Mathlib.Omega.{arith}
 use native.Mathlib.Decide.{decLt}
-use mathlib.Core.Path.{_≡_, refl, sym, ap, _∙_}
+use mathlib.Core.Path.{_≡_, refl, sym, ap, subst, _∙_}
 use mathlib.Core.Bool.{true, false, true≢false, false≢true}
 use mathlib.Core.Logic.{_↔_, _⊎_, inl, inr}
 use mathlib.Core.List.{List, [], _∷_}
@@ -15,7 +15,7 @@ use Rattle.laws.specs.Said.{Said, values, refusal, Refuses, refuses, answers}
 use Rattle.laws.specs.Test.{pick}
 use Rattle.laws.specs.TestLaws.{pick-cases}
 use Rattle.trace.specs.Trace.{frontOf}
-use Rattle.trace.specs.FrontCases.{FrontCase, ended, no-kind, cut-off, bad-field, front-case}
+use Rattle.trace.specs.FrontCases.{FrontCase, ended, no-kind, cut-off, bad-field, case-front, front-case}
 use Rattle.trace.specs.declared.Front.{Front}
 use Rattle.trace.specs.declared.Front.the-variants as front
 use Rattle.item_address.specs.Address.{Good}
@@ -28,7 +28,7 @@ use Rattle.replay_block.specs.declared.Begun.{Begun}
 use Rattle.replay_block.specs.Block.{begun, restIn, isStop, refusalOf, linesIn, BlockOutcome, blockOutcome, blockPlayed, blockReplayed}
 use Rattle.replay_block.specs.ReadingLaws.{Stops, rest-stops}
 use Rattle.replay_block.specs.BlockLaws.{rest-few}
-use Rattle.replay_block.specs.Blocks.{BlockCall, IsBlock, keptBy, Blocking, declines, stops, plays, blocking}
+use Rattle.replay_block.specs.BlockCalls.{BlockCall, IsBlock, keptBy, Blocking, declines, stops, plays, blocking}
 use Rattle.replay_block.specs.declared.Session.{Session}
 use Rattle.replay_block.specs.declared.BlockPlayed.{BlockPlayed}
 use Rattle.replay_block.specs.declared.BlockAnswer.{BlockAnswer}
@@ -41,14 +41,19 @@ blockPlayedSaid (Refused n) = refusal n
 blockPlayedSaid (Played text kept) = values (text ∷ kept ∷ [])
 blockPlayedSaid (Stopped n text) = values (text ∷ n ∷ [])
 
--- The state is out of its ranges, the buffer is shorter than the bytes kept and read, or the text memory has under 8,192 bytes and 18 for each of them.
+-- The buffer is shorter than the bytes kept and read, or the text memory has under 8,192 bytes and 18 for each of them.
+abbrev pub TooShort : ℕ → ℕ → List ℕ → List ℕ → Type 0
+TooShort kept read buffer text = (length buffer < kept + read) ⊎ (length text < 8192 + 18 * (kept + read))
+
+-- The state is out of its ranges, or the buffer or the text memory is too short.
 abbrev pub CannotPlay : ℕ → ℕ → Session → List ℕ → List ℕ → Type 0
-CannotPlay kept read s buffer text = (InRanges (s .state) → ⊥) ⊎ ((length buffer < kept + read) ⊎ (length text < 8192 + 18 * (kept + read)))
+CannotPlay kept read s buffer text = (InRanges (s .state) → ⊥) ⊎ TooShort kept read buffer text
 
 -- Exactly there a call is refused, and then nothing changed.
 pub play-refuses : (kept read : ℕ) (s : Session) (buffer text : List ℕ)
     → let o = blockReplayed kept read s buffer text in
-    Refuses {S = Session × List ℕ × List ℕ} (blockPlayedSaid (o .answer .answer)) (CannotPlay kept read s buffer text) (s, buffer, text) (o .answer .session, o .buffer, o .text)
+    Refuses {S = Session × List ℕ × List ℕ} (blockPlayedSaid (o .answer .answer)) (CannotPlay kept read s buffer text) (s, buffer, text)
+    (o .answer .session, o .buffer, o .text)
 unfolding blockReplayed blockPlayed
 play-refuses kept read s buffer text =
     pick-cases P (isWithin (s .state))
@@ -62,7 +67,9 @@ play-refuses kept read s buffer text =
     (λ w. refuses (inl (λ ranges. false≢true (sym w ∙ within-iff (s .state) .1 ranges))) tt)
   where
     P : BlockOutcome → Type 0
-    P o = Refuses {S = Session × List ℕ × List ℕ} (blockPlayedSaid (o .answer .answer)) (CannotPlay kept read s buffer text) (s, buffer, text) (o .answer .session, o .buffer, o .text)
+    P o =
+        Refuses {S = Session × List ℕ × List ℕ} (blockPlayedSaid (o .answer .answer)) (CannotPlay kept read s buffer text) (s, buffer, text)
+        (o .answer .session, o .buffer, o .text)
 
     can : InRanges (s .state) → kept + read ≤ length buffer → 8192 + 18 * (kept + read) ≤ length text → CannotPlay kept read s buffer text → ⊥
     can w b t (inl out) = out w
@@ -72,7 +79,7 @@ play-refuses kept read s buffer text =
 -- With which number: 16 before anything else, then 1, and no other.
 pub record BlockRefusals (kept read : ℕ) (s : Session) (buffer text : List ℕ) (answer : BlockAnswer) : Type 0 where
   pub sixteen : (answer ≡ Refused 16) ↔ (InRanges (s .state) → ⊥)
-  pub one : (answer ≡ Refused 1) ↔ (InRanges (s .state) × ((length buffer < kept + read) ⊎ (length text < 8192 + 18 * (kept + read))))
+  pub one : (answer ≡ Refused 1) ↔ (InRanges (s .state) × TooShort kept read buffer text)
   pub others : (n : ℕ) → answer ≡ Refused n → (n ≡ 16) ⊎ (n ≡ 1)
 
 -- An answer that is no refusal.
@@ -86,7 +93,8 @@ same-number : {n k : ℕ} → Refused n ≡ Refused k → n ≡ k
 same-number e = cc
 
 -- Every call.
-pub block-refusals : (kept read : ℕ) (s : Session) (buffer text : List ℕ) → BlockRefusals kept read s buffer text (blockReplayed kept read s buffer text .answer .answer)
+pub block-refusals : (kept read : ℕ) (s : Session) (buffer text : List ℕ) →
+    BlockRefusals kept read s buffer text (blockReplayed kept read s buffer text .answer .answer)
 unfolding blockReplayed blockPlayed
 block-refusals kept read s buffer text =
     pick-cases P (isWithin (s .state))
@@ -102,8 +110,8 @@ block-refusals kept read s buffer text =
     P : BlockOutcome → Type 0
     P o = BlockRefusals kept read s buffer text (o .answer .answer)
 
-    none : {answer : BlockAnswer} → (answer ≡ Refused 16 → ⊥) → (answer ≡ Refused 1 → ⊥) → ((n : ℕ) → answer ≡ Refused n → ⊥) → InRanges (s .state) →
-        kept + read ≤ length buffer → 8192 + 18 * (kept + read) ≤ length text → BlockRefusals kept read s buffer text answer
+    none : {answer : BlockAnswer} → (answer ≡ Refused 16 → ⊥) → (answer ≡ Refused 1 → ⊥) → ((n : ℕ) → answer ≡ Refused n → ⊥) →
+        InRanges (s .state) → kept + read ≤ length buffer → 8192 + 18 * (kept + read) ≤ length text → BlockRefusals kept read s buffer text answer
     none a b c w fits room =
         record {
           sixteen = (λ e. absurd (a e), λ out. absurd (out w));
@@ -111,11 +119,11 @@ block-refusals kept read s buffer text =
           others = λ n e. absurd (c n e);
         }
       where
-        can : (length buffer < kept + read) ⊎ (length text < 8192 + 18 * (kept + read)) → ⊥
+        can : TooShort kept read buffer text → ⊥
         can (inl few) = omega arith
         can (inr few) = omega arith
 
-    short : InRanges (s .state) → (length buffer < kept + read) ⊎ (length text < 8192 + 18 * (kept + read)) → BlockRefusals kept read s buffer text (Refused 1)
+    short : InRanges (s .state) → TooShort kept read buffer text → BlockRefusals kept read s buffer text (Refused 1)
     short w few =
         record {
           sixteen = (λ e. absurd (omega (arith, same-number e)), λ out. absurd (out w));
@@ -131,19 +139,41 @@ block-refusals kept read s buffer text =
           others = λ n e. inl (sym (same-number e));
         }
 
--- What holds of a call that is not refused, behind what was kept.
-pub record BlockIsRight (before : List ℕ) (c : BlockCall) : Type 0 where
-  -- it stops with 9 at an unknown kind or a field out of its range, and with 10 at a record that is cut off where the trace has ended
-  pub stopped : (n text : ℕ) → c .returned .answer ≡ Stopped n text →
-      (frontOf (keptBy (c .returned .answer) before c) ≡ front.Refused n) × ((n ≡ 9) ⊎ ((n ≡ 10) × (c .read ≡ 0)))
-  -- else nothing is left, or a record that is cut off, which is kept for the bytes to come, at most 6
-  pub played : (text kept : ℕ) → c .returned .answer ≡ Played text kept →
-      (keptBy (c .returned .answer) before c ≡ []) ⊎ ((frontOf (keptBy (c .returned .answer) before c) ≡ front.Refused 10) × (0 < c .read))
-  pub most : (text kept : ℕ) → c .returned .answer ≡ Played text kept → length (keptBy (c .returned .answer) before c) ≤ 6
-  -- what is beyond the lines, and beyond what is kept, is as it was
-  pub stopped-leaves : (n text : ℕ) → c .returned .answer ≡ Stopped n text → (c .leftBuffer ≡ c .buffer) × (drop text (c .left) ≡ drop text (c .lent))
+-- An answer that is no refusal.
+abbrev pub Unrefused : BlockAnswer → Type 0
+Unrefused (Refused n) = ⊥
+Unrefused (Played text kept) = Unit
+Unrefused (Stopped n text) = Unit
+
+-- What holds of a call that is not refused, where this rest is left behind the records that it played.
+pub record BlockIsRight (rest : List ℕ) (c : BlockCall) : Type 0 where
+  -- it stops with 9 exactly where an unknown kind or a field out of its range is left
+  pub nine : ((text : ℕ) × (c .returned .answer ≡ Stopped 9 text)) ↔ (Unrefused (c .returned .answer) × (frontOf rest ≡ front.Refused 9))
+  -- with 10 exactly where a record that is cut off is left and the trace has ended, and with no other number
+  pub ten : ((text : ℕ) × (c .returned .answer ≡ Stopped 10 text))
+      ↔ (Unrefused (c .returned .answer) × (frontOf rest ≡ front.Refused 10) × (c .read ≡ 0))
+  pub others : (n text : ℕ) → c .returned .answer ≡ Stopped n text → (n ≡ 9) ⊎ (n ≡ 10)
+  -- else, exactly where nothing is left, or a record that is cut off before bytes to come, the block is played
+  pub played : ((text : ℕ) × (kept : ℕ) × (c .returned .answer ≡ Played text kept))
+      ↔ (Unrefused (c .returned .answer) × ((rest ≡ []) ⊎ ((frontOf rest ≡ front.Refused 10) × (0 < c .read))))
+  -- a stop leaves the buffer; what is beyond its text, which lies within its memory, is as it was
+  pub stopped-leaves : (n text : ℕ) → c .returned .answer ≡ Stopped n text →
+      (c .leftBuffer ≡ c .buffer) × (text ≤ length (c .left)) × (drop text (c .left) ≡ drop text (c .lent))
+  -- a block that is played keeps as many bytes as it says, at most 6; what is beyond them and beyond its text is as it was
   pub played-leaves : (text kept : ℕ) → c .returned .answer ≡ Played text kept →
-      (drop kept (c .leftBuffer) ≡ drop kept (c .buffer)) × (drop text (c .left) ≡ drop text (c .lent))
+      (kept ≡ length rest) × (kept ≤ 6) × (drop kept (c .leftBuffer) ≡ drop kept (c .buffer))
+      × (text ≤ length (c .left)) × (drop text (c .left) ≡ drop text (c .lent))
+
+-- What holds of a call in a session within its ranges, behind these bytes kept.
+pub record CallIsRight (before : List ℕ) (s : Session) (c : BlockCall) : Type 0 where
+  -- it is never refused with 16; with 1 exactly where the buffer or the text memory is too short, and with no other number
+  pub within : c .returned .answer ≡ Refused 16 → ⊥
+  pub one : (c .returned .answer ≡ Refused 1) ↔ TooShort (c .kept) (c .read) (c .buffer) (c .lent)
+  pub others : (n : ℕ) → c .returned .answer ≡ Refused n → n ≡ 1
+  -- refused, it has changed nothing
+  pub refused : (n : ℕ) → c .returned .answer ≡ Refused n → (c .returned .session ≡ s) × (c .leftBuffer ≡ c .buffer) × (c .left ≡ c .lent)
+  -- else it stops or is played, by what is left
+  pub right : BlockIsRight (keptBy (c .returned .answer) before c) c
 
 -- Where it stops, and where it does not.
 stop-at : (rest : List ℕ) (read : ℕ) (f : Front) → frontOf rest ≡ f → isStop f (eqb read 0) ≡ true →
@@ -175,47 +205,154 @@ goes-at rest read (front.Refused n) e stop on = number (front-case e) refl on
     number (bad-field b) same on = absurd (true≢false on)
     number (cut-off c) same on = inr (e ∙ ap front.Refused (sym same), some (eqb-false read 0 on))
 
+-- Answers that differ.
+module _ {A : Type 0} {answer : BlockAnswer} where
+  no-refused-stop : {n k text : ℕ} → answer ≡ Refused n → answer ≡ Stopped k text → A
+  no-refused-stop a b = let z : _≡_ {A = ℕ} 0 1 = cc in absurd (omega arith)
+
+  no-refused-play : {n text kept : ℕ} → answer ≡ Refused n → answer ≡ Played text kept → A
+  no-refused-play a b = let z : _≡_ {A = ℕ} 0 1 = cc in absurd (omega arith)
+
+  no-stop-play : {n used text kept : ℕ} → answer ≡ Stopped n used → answer ≡ Played text kept → A
+  no-stop-play a b = let z : _≡_ {A = ℕ} 0 1 = cc in absurd (omega arith)
+
+-- Nothing left is no refusal.
+no-end : {A : Type 0} {n : ℕ} {rest : List ℕ} → rest ≡ [] → frontOf rest ≡ front.Refused n → A
+no-end e there = let end = case-front ended in let z : _≡_ {A = ℕ} 0 1 = cc (ap frontOf e, end, there) in absurd (omega arith)
+
+-- A call that is refused, one that stops, and one that is played.
+module _ {rest : List ℕ} {c : BlockCall} where
+  refused-right : {n : ℕ} → c .returned .answer ≡ Refused n → BlockIsRight rest c
+  refused-right a =
+      record {
+        nine = (λ (t, e). no-refused-stop a e, λ (u, e). absurd (subst Unrefused a u));
+        ten = (λ (t, e). no-refused-stop a e, λ (u, e, z). absurd (subst Unrefused a u));
+        others = λ n text e. no-refused-stop a e;
+        played = (λ (t, k, e). no-refused-play a e, λ (u, e). absurd (subst Unrefused a u));
+        stopped-leaves = λ n text e. no-refused-stop a e;
+        played-leaves = λ text kept e. no-refused-play a e;
+      }
+
+  stop-right : {n used : ℕ} → c .returned .answer ≡ Stopped n used → (frontOf rest ≡ front.Refused n) × ((n ≡ 9) ⊎ ((n ≡ 10) × (c .read ≡ 0))) →
+      c .leftBuffer ≡ c .buffer → used ≤ length (c .left) → drop used (c .left) ≡ drop used (c .lent) → BlockIsRight rest c
+  stop-right {n} {used} a (there, which) buffer room beyond =
+      record {
+        nine = (
+          λ (t, e). let same : n ≡ 9 = cc (a, e) in (rw a tt, there ∙ ap front.Refused same),
+          λ (u, e). let same : n ≡ 9 = cc (there, e) in (used, a ∙ ap (λ (k : ℕ). Stopped k used) same),
+        );
+        ten = (
+          λ (t, e). let same : n ≡ 10 = cc (a, e) in (rw a tt, there ∙ ap front.Refused same, ended-too which same),
+          λ (u, e, z). let same : n ≡ 10 = cc (there, e) in (used, a ∙ ap (λ (k : ℕ). Stopped k used) same),
+        );
+        others = λ k text e. let same : n ≡ k = cc (a, e) in number which same;
+        played = (λ (t, k, e). no-stop-play a e, λ (u, e). not-on e);
+        stopped-leaves = λ k text e. let same : text ≡ used = cc (a, e) in rw same (buffer, room, beyond);
+        played-leaves = λ text kept e. no-stop-play a e;
+      }
+    where
+      ended-too : (n ≡ 9) ⊎ ((n ≡ 10) × (c .read ≡ 0)) → n ≡ 10 → c .read ≡ 0
+      ended-too (inl e) same = absurd (omega arith)
+      ended-too (inr (e, z)) same = z
+
+      number : {k : ℕ} → (n ≡ 9) ⊎ ((n ≡ 10) × (c .read ≡ 0)) → n ≡ k → (k ≡ 9) ⊎ (k ≡ 10)
+      number (inl e) same = inl (omega arith)
+      number (inr (e, z)) same = inr (omega arith)
+
+      not-on : {A : Type 0} → (rest ≡ []) ⊎ ((frontOf rest ≡ front.Refused 10) × (0 < c .read)) → A
+      not-on (inl e) = no-end e there
+      not-on (inr (e, more)) = let same : n ≡ 10 = cc (there, e) in absurd (omega (arith, ended-too which same))
+
+  play-right : {used kept : ℕ} → c .returned .answer ≡ Played used kept → (rest ≡ []) ⊎ ((frontOf rest ≡ front.Refused 10) × (0 < c .read)) →
+      (kept ≡ length rest) × (kept ≤ 6) × (drop kept (c .leftBuffer) ≡ drop kept (c .buffer)) → used ≤ length (c .left) →
+      drop used (c .left) ≡ drop used (c .lent) → BlockIsRight rest c
+  play-right {used} {kept} a goes keeps room beyond =
+      record {
+        nine = (λ (t, e). no-stop-play e a, λ (u, e). absurd (not-nine goes e));
+        ten = (λ (t, e). no-stop-play e a, λ (u, e, z). absurd (not-ten goes e z));
+        others = λ n text e. no-stop-play e a;
+        played = (λ (t, k, e). (rw a tt, goes), λ (u, e). (used, kept, a));
+        stopped-leaves = λ n text e. no-stop-play e a;
+        played-leaves = λ text k e.
+            let same : text ≡ used = cc (a, e) in
+            let few : k ≡ kept = cc (a, e) in
+            rw (same, few) (keeps .0, keeps .1, keeps .2, room, beyond);
+      }
+    where
+      not-nine : (rest ≡ []) ⊎ ((frontOf rest ≡ front.Refused 10) × (0 < c .read)) → frontOf rest ≡ front.Refused 9 → ⊥
+      not-nine (inl e) there = no-end e there
+      not-nine (inr (e, more)) there = let z : _≡_ {A = ℕ} 9 10 = cc (e, there) in omega arith
+
+      not-ten : (rest ≡ []) ⊎ ((frontOf rest ≡ front.Refused 10) × (0 < c .read)) → frontOf rest ≡ front.Refused 10 → c .read ≡ 0 → ⊥
+      not-ten (inl e) there z = no-end e there
+      not-ten (inr (e, more)) there z = omega arith
+
+-- The text of a block lies within what is left of its memory.
+lines-within : (lines m : List ℕ) → length lines ≤ length (over lines m)
+lines-within lines m = omega (arith, length-append lines (drop (length lines) m))
+
 -- Every call.
-pub block-right : (before : List ℕ) (s : Session) (c : BlockCall) → IsBlock s c → BlockIsRight before c
+pub block-right : (before : List ℕ) (s : Session) (c : BlockCall) → IsBlock s c → BlockIsRight (keptBy (c .returned .answer) before c) c
 block-right before s c h = go (blocking h)
   where
-    go : Blocking (c .kept) (c .read) s (c .buffer) (c .lent) (c .returned) (c .leftBuffer) (c .left) → BlockIsRight before c
-    go (declines n out a b l) =
-        record {
-          stopped = λ k text e. let z : _≡_ {A = ℕ} 0 1 = cc (ap (λ (r : BlockPlayed). r .answer) a, e) in absurd (omega arith);
-          played = λ text kept e. let z : _≡_ {A = ℕ} 0 1 = cc (ap (λ (r : BlockPlayed). r .answer) a, e) in absurd (omega arith);
-          most = λ text kept e. let z : _≡_ {A = ℕ} 0 1 = cc (ap (λ (r : BlockPlayed). r .answer) a, e) in absurd (omega arith);
-          stopped-leaves = λ k text e. let z : _≡_ {A = ℕ} 0 1 = cc (ap (λ (r : BlockPlayed). r .answer) a, e) in absurd (omega arith);
-          played-leaves = λ text kept e. let z : _≡_ {A = ℕ} 0 1 = cc (ap (λ (r : BlockPlayed). r .answer) a, e) in absurd (omega arith);
-        }
+    go : Blocking (c .kept) (c .read) s (c .buffer) (c .lent) (c .returned) (c .leftBuffer) (c .left) →
+        BlockIsRight (keptBy (c .returned .answer) before c) c
+    go (declines n out a b l) = refused-right (ap (λ (r : BlockPlayed). r .answer) a)
     go (stops {block} is stop a b l) =
-        let at = stop-at (restIn block) (c .read) (frontOf (restIn block)) refl stop in
-        record {
-          stopped = λ n text e.
-              let same : refusalOf (frontOf (restIn block)) ≡ n = cc (ap (λ (r : BlockPlayed). r .answer) a, e) in
-              rw (e, ← is, ← same) at;
-          played = λ text kept e. let z : _≡_ {A = ℕ} 0 1 = cc (ap (λ (r : BlockPlayed). r .answer) a, e) in absurd (omega arith);
-          most = λ text kept e. let z : _≡_ {A = ℕ} 0 1 = cc (ap (λ (r : BlockPlayed). r .answer) a, e) in absurd (omega arith);
-          stopped-leaves = λ n text e.
-              let same : text ≡ length (linesIn block s) = cc (ap (λ (r : BlockPlayed). r .answer) a, e) in
-              (b, rw (l, same) (drop-append-seam (linesIn block s) _));
-          played-leaves = λ text kept e. let z : _≡_ {A = ℕ} 0 1 = cc (ap (λ (r : BlockPlayed). r .answer) a, e) in absurd (omega arith);
-        }
+        let rest : keptBy (c .returned .answer) before c ≡ restIn block = rw a (ap restIn (sym is)) in
+        subst (λ (x : List ℕ). BlockIsRight x c) (sym rest)
+        (stop-right (ap (λ (r : BlockPlayed). r .answer) a) (stop-at (restIn block) (c .read) (frontOf (restIn block)) refl stop) b
+        (rw l (lines-within (linesIn block s) (c .lent))) (rw l (drop-append-seam (linesIn block s) _)))
     go (plays {block} is on a b l) =
-        record {
-          stopped = λ n text e. let z : _≡_ {A = ℕ} 0 1 = cc (ap (λ (r : BlockPlayed). r .answer) a, e) in absurd (omega arith);
-          played = λ text kept e.
-              let same : kept ≡ length (restIn block) = cc (ap (λ (r : BlockPlayed). r .answer) a, e) in
-              rw (e, b, same, take-append-seam (restIn block) _) (goes-at (restIn block) (c .read) (frontOf (restIn block)) refl (rest-stops block) on);
-          most = λ text kept e.
-              let same : kept ≡ length (restIn block) = cc (ap (λ (r : BlockPlayed). r .answer) a, e) in
-              rw (e, b, same, take-append-seam (restIn block) _) (rest-few (restIn block) (eqb (c .read) 0) (rest-stops block) on);
-          stopped-leaves = λ n text e. let z : _≡_ {A = ℕ} 0 1 = cc (ap (λ (r : BlockPlayed). r .answer) a, e) in absurd (omega arith);
-          played-leaves = λ text kept e.
-              let same : kept ≡ length (restIn block) = cc (ap (λ (r : BlockPlayed). r .answer) a, e) in
-              let long : text ≡ length (linesIn block s) = cc (ap (λ (r : BlockPlayed). r .answer) a, e) in
-              (rw (b, same) (drop-append-seam (restIn block) _), rw (l, long) (drop-append-seam (linesIn block s) _));
-        }
+        let rest : keptBy (c .returned .answer) before c ≡ restIn block = rw (a, b) (take-append-seam (restIn block) _) in
+        subst (λ (x : List ℕ). BlockIsRight x c) (sym rest)
+        (play-right (ap (λ (r : BlockPlayed). r .answer) a) (goes-at (restIn block) (c .read) (frontOf (restIn block)) refl (rest-stops block) on)
+        (refl, rest-few (restIn block) (eqb (c .read) 0) (rest-stops block) on, rw b (drop-append-seam (restIn block) _))
+        (rw l (lines-within (linesIn block s) (c .lent))) (rw l (drop-append-seam (linesIn block s) _)))
+
+-- What a call that stopped left, and one that was played at the end of the trace.
+pub stops-at : {rest : List ℕ} {c : BlockCall} {n text : ℕ} → BlockIsRight rest c → c .returned .answer ≡ Stopped n text → frontOf rest ≡ front.Refused n
+stops-at {rest} {c} {n} {text} right e = by (right .others n text e)
+  where
+    by : (n ≡ 9) ⊎ (n ≡ 10) → frontOf rest ≡ front.Refused n
+    by (inl same) = right .nine .0 (text, rw same at e) .1 ∙ ap front.Refused (sym same)
+    by (inr same) = right .ten .0 (text, rw same at e) .1 ∙ ap front.Refused (sym same)
+
+pub ends-at : {rest : List ℕ} {c : BlockCall} {text kept : ℕ} → BlockIsRight rest c → c .returned .answer ≡ Played text kept → c .read ≡ 0 → rest ≡ []
+ends-at {rest} {c} {text} {kept} right e end = by (right .played .0 (text, kept, e) .1)
+  where
+    by : (rest ≡ []) ⊎ ((frontOf rest ≡ front.Refused 10) × (0 < c .read)) → rest ≡ []
+    by (inl none) = none
+    by (inr (cut, more)) = absurd (omega arith)
+
+-- Every call in a session within its ranges.
+pub call-right : (before : List ℕ) (s : Session) (c : BlockCall) → isWithin (s .state) ≡ true → IsBlock s c → CallIsRight before s c
+call-right before s c within h =
+    record {
+      within = λ e. words .sixteen .0 e ranges;
+      one = (λ e. words .one .0 e .1, λ short. words .one .1 (ranges, short));
+      others = λ n e. number n e (words .others n e);
+      refused = λ n e. unchanged (blocking h) e;
+      right = block-right before s c h;
+    }
+  where
+    ranges : InRanges (s .state)
+    ranges = within-iff (s .state) .0 within
+
+    words : BlockRefusals (c .kept) (c .read) s (c .buffer) (c .lent) (c .returned .answer)
+    words =
+        subst (BlockRefusals (c .kept) (c .read) s (c .buffer) (c .lent)) (sym (ap (λ (o : BlockOutcome). o .answer .answer) h))
+        (block-refusals (c .kept) (c .read) s (c .buffer) (c .lent))
+
+    number : (n : ℕ) → c .returned .answer ≡ Refused n → (n ≡ 16) ⊎ (n ≡ 1) → n ≡ 1
+    number n e (inl same) = absurd (words .sixteen .0 (e ∙ ap Refused same) ranges)
+    number n e (inr same) = same
+
+    unchanged : {n : ℕ} → Blocking (c .kept) (c .read) s (c .buffer) (c .lent) (c .returned) (c .leftBuffer) (c .left) →
+        c .returned .answer ≡ Refused n → (c .returned .session ≡ s) × (c .leftBuffer ≡ c .buffer) × (c .left ≡ c .lent)
+    unchanged (declines n out a b l) e = (ap (λ (r : BlockPlayed). r .session) a, b, l)
+    unchanged (stops is stop a b l) e = no-refused-stop e (ap (λ (r : BlockPlayed). r .answer) a)
+    unchanged (plays is on a b l) e = no-refused-play e (ap (λ (r : BlockPlayed). r .answer) a)
 
 -- The numbers of an answer: the text lies within its memory, and at most 6 bytes are kept.
 abbrev pub AnswerWithin : BlockAnswer → List ℕ → Type 0
@@ -229,10 +366,9 @@ answer-within {leftBuffer} {left} {returned} kept read s buffer lent h = go (blo
   where
     go : Blocking kept read s buffer lent returned leftBuffer left → AnswerWithin (returned .answer) left
     go (declines n out a b l) = rw a tt
-    go (stops {block} is stop a b l) = rw (a, l) (omega (arith, length-append (linesIn block s) (drop (length (linesIn block s)) lent)))
+    go (stops {block} is stop a b l) = rw (a, l) (lines-within (linesIn block s) lent)
     go (plays {block} is on a b l) =
-        rw (a, l)
-        (omega (arith, length-append (linesIn block s) (drop (length (linesIn block s)) lent)), rest-few (restIn block) (eqb read 0) (rest-stops block) on)
+        rw (a, l) (lines-within (linesIn block s) lent, rest-few (restIn block) (eqb read 0) (rest-stops block) on)
 
 -- The beginning of a session: the start by hand, and nothing counted; 8 for a bad address.
 pub record BeginWords (address : List ℕ) (b : Begun) : Type 0 where

@@ -5,6 +5,8 @@ pub mod ReadingLaws
 pub mod Run
 pub mod RunLaws
 pub mod BlockLaws
-pub mod Blocks
+pub mod BlockCalls
 pub mod BlockWords
+pub mod Blocks
 pub mod CutAnywhere
+pub mod BlocksDone

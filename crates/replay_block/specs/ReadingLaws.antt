@@ -33,7 +33,8 @@ reads-from zero (b ∷ block) = by (frontOf (b ∷ block)) refl (λ n. reads-fro
         ReadsAs (b ∷ block) (recordsBy f (λ n. recordsFrom (n - 1) block)) (restBy f (b ∷ block) (λ n. restFrom (n - 1) block))
     by Ended e more = none
     by (Refused n) e more = none
-    by (Good r n) e more = next e (subst (λ (l : List ℕ). ReadsAs l (recordsFrom (n - 1) block) (restFrom (n - 1) block)) (sym (drop-behind b block e)) (more n))
+    by (Good r n) e more =
+        next e (subst (λ (l : List ℕ). ReadsAs l (recordsFrom (n - 1) block) (restFrom (n - 1) block)) (sym (drop-behind b block e)) (more n))
 
 -- The records of a block, and then its rest.
 pub reads-all : (block : List ℕ) → ReadsAs block (recordsIn block) (restIn block)
@@ -68,3 +69,16 @@ one-reading {a} {c = c} (next {r = r} {rs = rs} {n = n} e more) stops (next {r =
     let size : n₂ ≡ n = cc (e, e₂) in
     let rest = one-reading more stops (subst (λ (k : ℕ). ReadsAs (drop k a) ss c) size more₂) stops₂ in
     ((λ i. same i ∷ rest .0 i), rest .1)
+
+-- Where a trace is read to its end, what is left behind the first of its records is read to its end too.
+pub reads-on : {a b : List ℕ} {rs ss : List TraceRecord} → ReadsAs a rs b → ReadsAs a ss [] → (ts : List TraceRecord) × ReadsAs b ts []
+reads-on none whole = (_, whole)
+reads-on (next e more) none = absurd (end e)
+reads-on {a} (next {n = n} e more) (next {rs = ss} {n = n₂} e₂ more₂) =
+    let size : n₂ ≡ n = cc (e, e₂) in reads-on more (subst (λ (k : ℕ). ReadsAs (drop k a) ss []) size more₂)
+
+-- What is read to its end is not refused.
+pub read-unrefused : {rest : List ℕ} {rs : List TraceRecord} {n : ℕ} → ReadsAs rest rs [] → frontOf rest ≡ Refused n → ⊥
+unfolding frontOf
+read-unrefused none there = let z : _≡_ {A = ℕ} 0 1 = cc in omega arith
+read-unrefused (next good more) there = let z : _≡_ {A = ℕ} 0 1 = cc (good, there) in omega arith

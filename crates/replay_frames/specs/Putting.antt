@@ -22,11 +22,6 @@ use Rattle.replay_frames.specs.declared.FramesPut.{FramesPut}
 use Rattle.replay_frames.specs.declared.OnePut.{OnePut}
 use Rattle.replay_frames.specs.declared.PutAnswer.the-variants.{Refused, Put}
 
--- Frames one behind the other.
-unfoldable pub behindEachOther : List (List ℕ) → List ℕ
-behindEachOther [] = []
-behindEachOther (f ∷ fs) = f ++ behindEachOther fs
-
 -- The reply that an answer gives, from the front of its memory; silence gives none.
 abbrev pub replyIn : FrameAnswer → List ℕ → List (List ℕ)
 replyIn (frames.Replied n) memory = take n memory ∷ []

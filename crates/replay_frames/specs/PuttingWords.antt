@@ -10,7 +10,7 @@ use Rattle.laws.specs.All.{AllOf}
 use Rattle.laws.specs.Memory.{outcome, over}
 use Rattle.laws.specs.TestLaws.{not-true}
 use Rattle.frame.specs.Frame.{Frame}
-use Rattle.frame.specs.EndToEnd.{EndToEnd, none, next, cutFrom, cut}
+use Rattle.frame.specs.EndToEnd.{EndToEnd, none, next, behindEachOther, cutFrom, cut}
 use Rattle.frame.specs.EndToEndLaws.{cut-next}
 use Rattle.energy.specs.Energies.{Rows}
 use Rattle.energy.specs.declared.Energies.{Energies}
@@ -20,7 +20,7 @@ use Rattle.meter.specs.Ranges.{InRanges, within-ranges}
 use Rattle.meter.specs.declared.FrameAnswer.{FrameAnswer}
 use Rattle.meter.specs.declared.FrameAnswer.the-variants as frames
 use Rattle.meter.specs.declared.Meter.{Meter}
-use Rattle.replay_frames.specs.Putting.{behindEachOther, replyIn, put, replyTo, meterAfter, repliesTo, refusedPut, allPut, framesPut}
+use Rattle.replay_frames.specs.Putting.{replyIn, put, replyTo, meterAfter, repliesTo, refusedPut, allPut, framesPut}
 use Rattle.replay_frames.specs.PuttingLaws.{meter-append, replies-append}
 use Rattle.replay_frames.specs.declared.PutAnswer.the-variants.{Put}
 

@@ -104,6 +104,12 @@ front-written (Key true) more right = case-front key-on
 front-written (Key false) more right = case-front key-off
 front-written Settle more right = case-front settle
 
+-- Records written, and then more.
+pub written-append : (rs more : List TraceRecord) → written (rs ++ more) ≡ written rs ++ written more
+unfolding written
+written-append [] more = refl
+written-append (r ∷ rs) more = rw (written-append rs more) (sym (append-assoc (recordBytes r) (written rs) (written more)))
+
 -- Records written one behind the other are read back one by one.
 pub reads-written : (rs : List TraceRecord) (rest : List ℕ) → AllOf FieldsRight rs → ReadsAs (written rs ++ rest) rs rest
 unfolding written
