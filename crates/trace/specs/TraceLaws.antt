@@ -143,7 +143,3 @@ pub reads-then : {a b c : List ℕ} {rs ss : List TraceRecord} → ReadsAs a rs 
 reads-then none behind = behind
 reads-then (next good before) behind = next good (reads-then before behind)
 
--- One good record more is read.
-pub reads-one : {a rest : List ℕ} {rs : List TraceRecord} {r : TraceRecord} {n : ℕ} → ReadsAs a rs rest → frontOf rest ≡ Good r n
-    → ReadsAs a (rs ++ (r ∷ [])) (drop n rest)
-reads-one before good = reads-then before (next good none)
