@@ -215,7 +215,7 @@ host-goes {r} {n} {block} {run} there of-host memory ready =
                   within = kept .within;
                   sized = kept .sized;
                   array = ap (λ (x : Receiver). length (x .kept)) (kept .receiver) ∙ ready .array;
-                  numbers = went-fits (run .session) _ _ _ _ _;
+                  numbers = went-fits (run .session) _ n _ _ _;
                   reached = omega (arith, fits, length-drop (run .at) block, ready .reached);
                   room = omega (arith, less, ready .room);
                 };
@@ -319,7 +319,7 @@ module _ {block memory : List ℕ} {run : Run} {heard : Heard} {frames : List �
                 within = within;
                 sized = sized;
                 array = array;
-                numbers = went-fits (run .session) _ _ _ _ _;
+                numbers = went-fits (run .session) _ (heard .at - run .at) _ _ _;
                 reached = h .on .within-block;
                 room = omega (arith, less, ready .room, size);
               };

@@ -142,4 +142,3 @@ reads-more (next {trace} {rest} {r} {rs} {n} good behind) more =
 pub reads-then : {a b c : List ℕ} {rs ss : List TraceRecord} → ReadsAs a rs b → ReadsAs b ss c → ReadsAs a (rs ++ ss) c
 reads-then none behind = behind
 reads-then (next good before) behind = next good (reads-then before behind)
-
