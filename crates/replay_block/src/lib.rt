@@ -20,7 +20,7 @@ ghost use Rattle.laws.specs.Memory.{outcome, over};
 ghost use Rattle.replay_block.specs.Block.{begun, isStop, refusalOf, blockOutcome, blockReplayed};
 
 // How many bytes of text a byte of a block can come to, besides what the receiver keeps before it.
-pub const TEXT_OF_A_BYTE: usize = 18;
+pub const TEXT_OF_A_TRACE_BYTE: usize = 18;
 
 // What a replay in blocks goes on with, and what it has come to so far; the numbers are modulo 2^64.
 pub struct Session {
@@ -159,7 +159,7 @@ pub fn play_block(
     if text.len() < STEP_MEMORY {
         return refused(session, SHORT_MEMORY);
     }
-    if (text.len() - STEP_MEMORY) / TEXT_OF_A_BYTE < end {
+    if (text.len() - STEP_MEMORY) / TEXT_OF_A_TRACE_BYTE < end {
         return refused(session, SHORT_MEMORY);
     }
     let run = run_on(&buffer[..end], session, text);

@@ -16,7 +16,7 @@ ghost use Rattle.laws.specs.Memory.{outcome};
 ghost use Rattle.replay_frames.specs.Putting.{refusedPut, onePut, framesPut};
 
 // How many bytes of text a byte of a frame can come to: a reply has at most 212 bytes, its line at most 417, and a frame at least 12.
-pub const TEXT_OF_A_BYTE: usize = 35;
+pub const TEXT_OF_A_FRAME_BYTE: usize = 35;
 
 // The answer to frames put to a meter.
 pub enum PutAnswer {
@@ -92,7 +92,7 @@ pub fn put_frames(meter: Meter, energies: Energies, frames: &[u8], out: &mut [u8
     if !meter.is_within_ranges(forward, reverse) {
         return refused(meter, OUT_OF_RANGE);
     }
-    if out.len() / TEXT_OF_A_BYTE < frames.len() {
+    if out.len() / TEXT_OF_A_FRAME_BYTE < frames.len() {
         return refused(meter, SHORT_MEMORY);
     }
     let mut present = meter;
