@@ -4,7 +4,7 @@ use crate::state::State;
 use replay::StepAnswer;
 use replay_walker::walk_from;
 use run_replay_state::memory::MEMORY;
-use run_replay_state::memory::lent;
+use run_replay_state::memory::at_most;
 use run_replay_state::memory::write_text;
 use run_text::memory::FILL;
 use run_text::write::write;
@@ -83,7 +83,7 @@ struct Made {
 // One step in an output buffer that is filled before it, with so many left to make.
 fn step(state: State, left: u32, trace: &[u8]) -> Made {
     let mut out = [FILL; MEMORY];
-    let size = lent(state.room);
+    let size = at_most(MEMORY, state.room);
     let replay = state.replay;
     let place = state.place;
     let stepped = walk_from(trace, place, replay, &mut out[0..size]);

@@ -6,14 +6,14 @@ ghost use Prim.Native.Nat.{_≤_};
 // How many bytes the output buffer has.
 pub const MEMORY: usize = 12000;
 
-// How many of them are lent: as many as asked, at most all.
-pub fn lent(room: usize) -> usize
-    ensures { λ r. ⌜ r ≤ 12000 ⌝ }
+// The smaller of a number and a limit.
+pub fn at_most(limit: usize, n: usize) -> usize
+    ensures { λ r. ⌜ r ≤ limit ⌝ }
 {
-    if room < MEMORY {
-        return room;
+    if n < limit {
+        return n;
     }
-    MEMORY
+    limit
 }
 
 // Writes the text at the front of the output buffer, and says so where bytes beyond it are changed.

@@ -1,0 +1,90 @@
+// Carries out a script of calls of a replay in blocks, read as text from standard input, and writes what each call answers. Each line is a call:
+//
+//     # ..                              a comment, copied, as an empty line is
+//     begin AAAAAAAAAAAA                a session of an address, high digits first; no bytes are kept
+//     number N HIGH LOW                 sets a number of the session, in two halves of 32 bits: its place, records, frames or replies for N of 0 to 3
+//     sizes OUT BUFFER KEPT             how many bytes later calls are lent: of output buffer, at most 12,000, and of the buffer of the blocks, at most
+//                                       256, both as at the start; and how many bytes at the front of the latter are kept
+//     block HH ..                       bytes read behind those kept, and this block played
+//     play N                            a block played with so many bytes read, as they stand in the buffer
+//     frames HH ..                      frames put to the session's meter
+//     break WORD                        sets a value outside document 01's ranges: receiver, kept, meter, register or reading
+//     state                             what the meter holds besides its readings, and the bytes that the receiver keeps
+//     reading DIRECTION ROW COLUMN      a reading as it is sent
+//     refusal N                         the text of a refusal at the session's place
+//     counts                            the text of the session's records, frames and replies
+//     usage N                           the text of how the replay program is called; why is 0 for asked, 1 for arguments, 2 for the address
+//     address TEXT                      the address that the replay program reads from a text
+mod block;
+mod call;
+mod state;
+mod text;
+
+use block::play;
+use block::put;
+use bytes::scan::find;
+use call::Verb;
+use call::verb_of;
+use libc::STDIN_FILENO;
+use run_text::read::is_comment;
+use run_text::read::read_numbers;
+use run_text::write::write;
+use run_text::write::write_line;
+use state::BUFFER;
+use state::State;
+
+// Carries out a line. Where a call has no numbers, or others than it takes, they are zeros.
+fn run_line(state: State, line: &[u8], buffer: &mut [u8]) -> State {
+    if is_comment(line) {
+        write_line(line);
+        return state;
+    }
+    let end = find(line, 0, line.len(), b' ');
+    let behind = &line[end..];
+    let numbers = read_numbers(behind, u32::MAX);
+    let last = numbers.d;
+    let verb = verb_of(&line[0..end]);
+    match verb {
+        Verb::Begin => state.begin(behind),
+        Verb::Number => state.number(numbers),
+        Verb::Sizes => state.sized(numbers),
+        Verb::Block => block::block(state, behind, buffer),
+        Verb::Play => play(state, last as usize, buffer),
+        Verb::Frames => put(state, behind),
+        Verb::Break => state.broken(behind),
+        Verb::State => state.show(),
+        Verb::Reading => state.reading(numbers),
+        Verb::Refusal => text::refusal(state, last),
+        Verb::Counts => text::counts(state),
+        Verb::Usage => text::usage(state, last),
+        Verb::Address => text::address(state, behind),
+        Verb::Other => {
+            write(b"not a call: ");
+            write_line(line);
+            state
+        }
+    }
+}
+
+// Carries out each line of the text. The end of the text ends the last line too.
+fn run_lines(text: &[u8], buffer: &mut [u8]) {
+    let mut state = State::new();
+    let mut at = 0;
+    while at < text.len() {
+        let end = find(text, at, text.len(), b'\n');
+        state = run_line(state, &text[at..end], buffer);
+        at = end + 1;
+    }
+}
+
+// Carries out the script that the whole input is, of at most 100,000 bytes.
+fn main() {
+    let mut text = [0u8; 100001];
+    let n = io::read_full(STDIN_FILENO, &mut text);
+    if n == text.len() {
+        write(b"script too long\n");
+        return;
+    }
+    let mut buffer = [0u8; BUFFER];
+    run_lines(&text[..n], &mut buffer);
+}

@@ -1,0 +1,84 @@
+// The texts of the replay program, written into lent memory, and the addresses that it reads.
+use crate::state::State;
+use replay_text::Reason;
+use replay_text::Written;
+use replay_text::address::read_address;
+use run_replay_state::memory::MEMORY;
+use run_replay_state::memory::at_most;
+use run_replay_state::memory::write_text;
+use run_text::memory::FILL;
+use run_text::write::write;
+use run_text::write::write_bytes;
+use run_text::write::write_either;
+use run_text::write::write_numbered;
+
+// Writes the answer to the writing of a text, and the text in the output buffer.
+fn write_written(written: Written, out: &[u8; MEMORY]) {
+    match written {
+        Written::Length(n) => {
+            write_numbered(b"written ", n);
+            write_text(out, n);
+        }
+        Written::TooLittleMemory => {
+            write(b"too little memory\n");
+            write_text(out, 0);
+        }
+    }
+}
+
+// As it is, after the text of a refusal at the session's place.
+pub(crate) fn refusal(state: State, number: u32) -> State {
+    let mut out = [FILL; MEMORY];
+    let room = at_most(MEMORY, state.room);
+    let session = state.session;
+    let written = replay_text::write_refused(
+        (number % 256) as u8,
+        session.place,
+        &mut out[0..room],
+    );
+    write_written(written, &out);
+    state
+}
+
+// As it is, after the text of the session's records, frames and replies.
+pub(crate) fn counts(state: State) -> State {
+    let mut out = [FILL; MEMORY];
+    let room = at_most(MEMORY, state.room);
+    let session = state.session;
+    let written = replay_text::write_counts(
+        session.records,
+        session.frames,
+        session.replies,
+        &mut out[0..room],
+    );
+    write_written(written, &out);
+    state
+}
+
+// The reason of a number.
+fn reason_of(number: u32) -> Reason {
+    match number {
+        0 => Reason::Asked,
+        1 => Reason::NotOneArgument,
+        _ => Reason::BadAddress,
+    }
+}
+
+// As it is, after the text of how the program is called.
+pub(crate) fn usage(state: State, number: u32) -> State {
+    let mut out = [FILL; MEMORY];
+    let room = at_most(MEMORY, state.room);
+    let written = replay_text::write_usage(reason_of(number), &mut out[0..room]);
+    write_written(written, &out);
+    state
+}
+
+// As it is, after the address that is read from a text behind a blank.
+pub(crate) fn address(state: State, text: &[u8]) -> State {
+    let start = at_most(text.len(), 1);
+    let read = read_address(&text[start..]);
+    let address = read.address;
+    write_either(read.found, b"address", b"no address");
+    write_bytes(b"", &address);
+    state
+}
