@@ -1,7 +1,7 @@
 // The word of a line of the script as a call.
 use run_script_calls::place_among;
 
-// Which call a line asks for.
+// A call that changes what stands between two lines.
 pub(crate) enum Verb {
     Begin,
     Number,
@@ -10,6 +10,12 @@ pub(crate) enum Verb {
     Play,
     Frames,
     Break,
+    // None of these.
+    Other,
+}
+
+// A call that changes nothing.
+pub(crate) enum Shown {
     State,
     Reading,
     Refusal,
@@ -20,11 +26,9 @@ pub(crate) enum Verb {
     Other,
 }
 
-// The call that a word names.
+// The call with a change that a word names.
 pub(crate) fn verb_of(word: &[u8]) -> Verb {
-    let words =
-        b"begin number sizes block play frames break state reading refusal counts usage address";
-    match place_among(words, word) {
+    match place_among(b"begin number sizes block play frames break", word) {
         0 => Verb::Begin,
         1 => Verb::Number,
         2 => Verb::Sizes,
@@ -32,12 +36,19 @@ pub(crate) fn verb_of(word: &[u8]) -> Verb {
         4 => Verb::Play,
         5 => Verb::Frames,
         6 => Verb::Break,
-        7 => Verb::State,
-        8 => Verb::Reading,
-        9 => Verb::Refusal,
-        10 => Verb::Counts,
-        11 => Verb::Usage,
-        12 => Verb::Address,
         _ => Verb::Other,
+    }
+}
+
+// The call without a change that a word names.
+pub(crate) fn shown_of(word: &[u8]) -> Shown {
+    match place_among(b"state reading refusal counts usage address", word) {
+        0 => Shown::State,
+        1 => Shown::Reading,
+        2 => Shown::Refusal,
+        3 => Shown::Counts,
+        4 => Shown::Usage,
+        5 => Shown::Address,
+        _ => Shown::Other,
     }
 }

@@ -23,9 +23,12 @@ mod text;
 use block::play;
 use block::put;
 use bytes::scan::find;
+use call::Shown;
 use call::Verb;
+use call::shown_of;
 use call::verb_of;
 use libc::STDIN_FILENO;
+use run_replay_state::shown;
 use run_text::read::is_comment;
 use run_text::read::read_numbers;
 use run_text::write::write;
@@ -33,7 +36,29 @@ use run_text::write::write_line;
 use state::BUFFER;
 use state::State;
 
-// Carries out a line. Where a call has no numbers, or others than it takes, they are zeros.
+// Carries out a call that changes nothing, or says that the line is no call. Where a call has no numbers, or others than it takes, they are zeros.
+fn show(state: State, line: &[u8]) {
+    let end = find(line, 0, line.len(), b' ');
+    let behind = &line[end..];
+    let numbers = read_numbers(behind, u32::MAX);
+    let session = state.session;
+    let room = state.room;
+    let call = shown_of(&line[0..end]);
+    match call {
+        Shown::State => shown::show(session.state),
+        Shown::Reading => shown::show_reading(session.state, numbers),
+        Shown::Refusal => text::refusal(numbers.d, session.place, room),
+        Shown::Counts => text::counts(session.records, session.frames, session.replies, room),
+        Shown::Usage => text::usage(numbers.d, room),
+        Shown::Address => text::address(behind),
+        Shown::Other => {
+            write(b"not a call: ");
+            write_line(line);
+        }
+    }
+}
+
+// Carries out a line.
 fn run_line(state: State, line: &[u8], buffer: &mut [u8]) -> State {
     if is_comment(line) {
         write_line(line);
@@ -42,25 +67,17 @@ fn run_line(state: State, line: &[u8], buffer: &mut [u8]) -> State {
     let end = find(line, 0, line.len(), b' ');
     let behind = &line[end..];
     let numbers = read_numbers(behind, u32::MAX);
-    let last = numbers.d;
     let verb = verb_of(&line[0..end]);
     match verb {
         Verb::Begin => state.begin(behind),
         Verb::Number => state.number(numbers),
         Verb::Sizes => state.sized(numbers),
         Verb::Block => block::block(state, behind, buffer),
-        Verb::Play => play(state, last as usize, buffer),
+        Verb::Play => play(state, numbers.d as usize, buffer),
         Verb::Frames => put(state, behind),
         Verb::Break => state.broken(behind),
-        Verb::State => state.show(),
-        Verb::Reading => state.reading(numbers),
-        Verb::Refusal => text::refusal(state, last),
-        Verb::Counts => text::counts(state),
-        Verb::Usage => text::usage(state, last),
-        Verb::Address => text::address(state, behind),
         Verb::Other => {
-            write(b"not a call: ");
-            write_line(line);
+            show(state, line);
             state
         }
     }

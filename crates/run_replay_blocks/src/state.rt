@@ -1,9 +1,8 @@
-// What stands between two lines of the script, and the calls that change or show it and play nothing.
+// What stands between two lines of the script, and the calls that change it and play nothing.
 use replay::ReplayState;
 use replay_block::Session;
 use run_replay_state::given;
 use run_replay_state::memory::MEMORY;
-use run_replay_state::shown;
 use run_script_answers::told::write_answer;
 use run_text::read::Numbers;
 
@@ -82,19 +81,5 @@ impl State {
     pub(crate) fn broken(self, word: &[u8]) -> State {
         let session = self.session;
         self.with_replay(given::broken(session.state, word))
-    }
-
-    // As it is, and shown.
-    pub(crate) fn show(self) -> State {
-        let session = self.session;
-        shown::show(session.state);
-        self
-    }
-
-    // As it is, after a reading was shown, by direction, row and column.
-    pub(crate) fn reading(self, numbers: Numbers) -> State {
-        let session = self.session;
-        shown::show_reading(session.state, numbers);
-        self
     }
 }

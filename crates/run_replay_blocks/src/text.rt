@@ -1,5 +1,4 @@
 // The texts of the replay program, written into lent memory, and the addresses that it reads.
-use crate::state::State;
 use replay_text::Reason;
 use replay_text::Written;
 use replay_text::address::read_address;
@@ -26,33 +25,20 @@ fn write_written(written: Written, out: &[u8; MEMORY]) {
     }
 }
 
-// As it is, after the text of a refusal at the session's place.
-pub(crate) fn refusal(state: State, number: u32) -> State {
+// Writes the text of a refusal at a place.
+pub(crate) fn refusal(number: u32, place: u64, room: usize) {
     let mut out = [FILL; MEMORY];
-    let room = at_most(MEMORY, state.room);
-    let session = state.session;
-    let written = replay_text::write_refused(
-        (number % 256) as u8,
-        session.place,
-        &mut out[0..room],
-    );
+    let size = at_most(MEMORY, room);
+    let written = replay_text::write_refused((number % 256) as u8, place, &mut out[0..size]);
     write_written(written, &out);
-    state
 }
 
-// As it is, after the text of the session's records, frames and replies.
-pub(crate) fn counts(state: State) -> State {
+// Writes the text of so many records, frames and replies.
+pub(crate) fn counts(records: u64, frames: u64, replies: u64, room: usize) {
     let mut out = [FILL; MEMORY];
-    let room = at_most(MEMORY, state.room);
-    let session = state.session;
-    let written = replay_text::write_counts(
-        session.records,
-        session.frames,
-        session.replies,
-        &mut out[0..room],
-    );
+    let size = at_most(MEMORY, room);
+    let written = replay_text::write_counts(records, frames, replies, &mut out[0..size]);
     write_written(written, &out);
-    state
 }
 
 // The reason of a number.
@@ -64,21 +50,19 @@ fn reason_of(number: u32) -> Reason {
     }
 }
 
-// As it is, after the text of how the program is called.
-pub(crate) fn usage(state: State, number: u32) -> State {
+// Writes the text of how the program is called, for the reason of a number.
+pub(crate) fn usage(number: u32, room: usize) {
     let mut out = [FILL; MEMORY];
-    let room = at_most(MEMORY, state.room);
-    let written = replay_text::write_usage(reason_of(number), &mut out[0..room]);
+    let size = at_most(MEMORY, room);
+    let written = replay_text::write_usage(reason_of(number), &mut out[0..size]);
     write_written(written, &out);
-    state
 }
 
-// As it is, after the address that is read from a text behind a blank.
-pub(crate) fn address(state: State, text: &[u8]) -> State {
+// Writes the address that is read from a text behind a blank.
+pub(crate) fn address(text: &[u8]) {
     let start = at_most(text.len(), 1);
     let read = read_address(&text[start..]);
     let address = read.address;
     write_either(read.found, b"address", b"no address");
     write_bytes(b"", &address);
-    state
 }
