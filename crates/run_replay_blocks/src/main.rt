@@ -18,7 +18,6 @@
 mod block;
 mod call;
 mod state;
-mod text;
 
 use block::play;
 use block::put;
@@ -29,6 +28,8 @@ use call::shown_of;
 use call::verb_of;
 use libc::STDIN_FILENO;
 use run_replay_state::shown;
+use run_replay_state::text;
+use run_text::read::Numbers;
 use run_text::read::is_comment;
 use run_text::read::read_numbers;
 use run_text::write::write;
@@ -36,14 +37,11 @@ use run_text::write::write_line;
 use state::BUFFER;
 use state::State;
 
-// Carries out a call that changes nothing, or says that the line is no call. Where a call has no numbers, or others than it takes, they are zeros.
-fn show(state: State, line: &[u8]) {
-    let end = find(line, 0, line.len(), b' ');
-    let behind = &line[end..];
-    let numbers = read_numbers(behind, u32::MAX);
+// Carries out a call that changes nothing, or says that there is none. Where a call has no numbers, or others than it takes, they are zeros.
+fn show(state: State, word: &[u8], behind: &[u8], numbers: Numbers) {
     let session = state.session;
     let room = state.room;
-    let call = shown_of(&line[0..end]);
+    let call = shown_of(word);
     match call {
         Shown::State => shown::show(session.state),
         Shown::Reading => shown::show_reading(session.state, numbers),
@@ -53,7 +51,8 @@ fn show(state: State, line: &[u8]) {
         Shown::Address => text::address(behind),
         Shown::Other => {
             write(b"not a call: ");
-            write_line(line);
+            write(word);
+            write_line(behind);
         }
     }
 }
@@ -67,7 +66,8 @@ fn run_line(state: State, line: &[u8], buffer: &mut [u8]) -> State {
     let end = find(line, 0, line.len(), b' ');
     let behind = &line[end..];
     let numbers = read_numbers(behind, u32::MAX);
-    let verb = verb_of(&line[0..end]);
+    let word = &line[0..end];
+    let verb = verb_of(word);
     match verb {
         Verb::Begin => state.begin(behind),
         Verb::Number => state.number(numbers),
@@ -77,7 +77,7 @@ fn run_line(state: State, line: &[u8], buffer: &mut [u8]) -> State {
         Verb::Frames => put(state, behind),
         Verb::Break => state.broken(behind),
         Verb::Other => {
-            show(state, line);
+            show(state, word, behind, numbers);
             state
         }
     }

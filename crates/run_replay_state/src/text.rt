@@ -1,10 +1,10 @@
-// The texts of the replay program, written into lent memory, and the addresses that it reads.
+// The texts of the replay program, written into an output buffer of which so many bytes are lent, and the addresses that it reads.
+use crate::memory::MEMORY;
+use crate::memory::at_most;
+use crate::memory::write_text;
 use replay_text::Reason;
 use replay_text::Written;
 use replay_text::address::read_address;
-use run_replay_state::memory::MEMORY;
-use run_replay_state::memory::at_most;
-use run_replay_state::memory::write_text;
 use run_text::memory::FILL;
 use run_text::write::write;
 use run_text::write::write_bytes;
@@ -26,7 +26,7 @@ fn write_written(written: Written, out: &[u8; MEMORY]) {
 }
 
 // Writes the text of a refusal at a place.
-pub(crate) fn refusal(number: u32, place: u64, room: usize) {
+pub fn refusal(number: u32, place: u64, room: usize) {
     let mut out = [FILL; MEMORY];
     let size = at_most(MEMORY, room);
     let written = replay_text::write_refused((number % 256) as u8, place, &mut out[0..size]);
@@ -34,7 +34,7 @@ pub(crate) fn refusal(number: u32, place: u64, room: usize) {
 }
 
 // Writes the text of so many records, frames and replies.
-pub(crate) fn counts(records: u64, frames: u64, replies: u64, room: usize) {
+pub fn counts(records: u64, frames: u64, replies: u64, room: usize) {
     let mut out = [FILL; MEMORY];
     let size = at_most(MEMORY, room);
     let written = replay_text::write_counts(records, frames, replies, &mut out[0..size]);
@@ -51,7 +51,7 @@ fn reason_of(number: u32) -> Reason {
 }
 
 // Writes the text of how the program is called, for the reason of a number.
-pub(crate) fn usage(number: u32, room: usize) {
+pub fn usage(number: u32, room: usize) {
     let mut out = [FILL; MEMORY];
     let size = at_most(MEMORY, room);
     let written = replay_text::write_usage(reason_of(number), &mut out[0..size]);
@@ -59,7 +59,7 @@ pub(crate) fn usage(number: u32, room: usize) {
 }
 
 // Writes the address that is read from a text behind a blank.
-pub(crate) fn address(text: &[u8]) {
+pub fn address(text: &[u8]) {
     let start = at_most(text.len(), 1);
     let read = read_address(&text[start..]);
     let address = read.address;
