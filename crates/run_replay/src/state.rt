@@ -1,9 +1,9 @@
 // What stands between two lines of the script, and what each call besides the steps makes of it.
 use meter_counting::HostAnswer;
 use replay::ReplayState;
-use run_replay_state::given::address_of;
-use run_replay_state::given::broken;
-use run_replay_state::shown;
+use run_replay_parts::given::address_of;
+use run_replay_parts::given::broken;
+use run_replay_parts::shown;
 use run_text::count::sum;
 use run_text::read::BytesRead;
 use run_text::read::Numbers;

@@ -3,9 +3,9 @@
 use crate::state::State;
 use replay::StepAnswer;
 use replay_walker::walk_from;
-use run_replay_state::memory::MEMORY;
-use run_replay_state::memory::at_most;
-use run_replay_state::memory::write_text;
+use run_replay_parts::memory::MEMORY;
+use run_replay_parts::memory::at_most;
+use run_replay_parts::memory::write_text;
 use run_text::memory::FILL;
 use run_text::write::write;
 use run_text::write::write_number;

@@ -1,14 +1,12 @@
-// Blocks of a trace played, frames put to a meter, and what is written of both.
+// Blocks of a trace played, and what is written of them.
 use crate::state::BUFFER;
 use crate::state::State;
 use replay_block::BlockAnswer;
 use replay_block::Session;
 use replay_block::play_block;
-use replay_frames::PutAnswer;
-use replay_frames::put_frames;
-use run_replay_state::memory::MEMORY;
-use run_replay_state::memory::at_most;
-use run_replay_state::memory::write_text;
+use run_replay_parts::memory::MEMORY;
+use run_replay_parts::memory::at_most;
+use run_replay_parts::memory::write_text;
 use run_text::memory::FILL;
 use run_text::read::BytesRead;
 use run_text::read::read_bytes;
@@ -121,47 +119,4 @@ pub(crate) fn block(state: State, text: &[u8], buffer: &mut [u8]) -> State {
         return state;
     };
     play(state, read, buffer)
-}
-
-// Puts frames, so many bytes at the front of a buffer, to the session's meter, and writes the answer.
-fn put_front(state: State, frames: &[u8; BUFFER], length: usize) -> State {
-    let all: &[u8] = frames;
-    if all.len() < length {
-        return state;
-    }
-    let mut out = [FILL; MEMORY];
-    let room = at_most(MEMORY, state.room);
-    let session = state.session;
-    let mut replay = session.state;
-    let put = put_frames(
-        replay.meter,
-        replay.energies,
-        &all[0..length],
-        &mut out[0..room],
-    );
-    let answer = put.answer;
-    match answer {
-        PutAnswer::Refused(refusal) => {
-            write_numbered(b"refused ", refusal as usize);
-            write_text(&out, 0);
-        }
-        PutAnswer::Put { text, lines } => {
-            write(b"put ");
-            write_two(text, b" ", lines, b"\n");
-            write_text(&out, text);
-        }
-    }
-    let meter = put.meter;
-    replay.meter = meter;
-    state.with_replay(replay)
-}
-
-// Puts the frames of a text to the session's meter.
-pub(crate) fn put(state: State, text: &[u8]) -> State {
-    let mut frames = [0u8; BUFFER];
-    let BytesRead::Count(length) = read_bytes(text, &mut frames) else {
-        write(b"no bytes\n");
-        return state;
-    };
-    put_front(state, &frames, length)
 }

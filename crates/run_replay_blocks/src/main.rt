@@ -20,15 +20,14 @@ mod call;
 mod state;
 
 use block::play;
-use block::put;
 use bytes::scan::find;
 use call::Shown;
 use call::Verb;
 use call::shown_of;
 use call::verb_of;
 use libc::STDIN_FILENO;
-use run_replay_state::shown;
-use run_replay_state::text;
+use run_replay_parts::shown;
+use run_replay_parts::text;
 use run_text::read::Numbers;
 use run_text::read::is_comment;
 use run_text::read::read_numbers;
@@ -74,7 +73,7 @@ fn run_line(state: State, line: &[u8], buffer: &mut [u8]) -> State {
         Verb::Sizes => state.sized(numbers),
         Verb::Block => block::block(state, behind, buffer),
         Verb::Play => play(state, numbers.d as usize, buffer),
-        Verb::Frames => put(state, behind),
+        Verb::Frames => state.frames(behind),
         Verb::Break => state.broken(behind),
         Verb::Other => {
             show(state, word, behind, numbers);

@@ -1,8 +1,9 @@
-// What stands between two lines of the script, and the calls that change it and play nothing.
+// What stands between two lines of the script, and the calls that change it and play no block.
 use replay::ReplayState;
 use replay_block::Session;
-use run_replay_state::given;
-use run_replay_state::memory::MEMORY;
+use run_replay_parts::given;
+use run_replay_parts::memory::MEMORY;
+use run_replay_parts::put::put;
 use run_script_answers::told::write_answer;
 use run_text::read::Numbers;
 
@@ -75,6 +76,15 @@ impl State {
         let mut next = self;
         next.session = session;
         next
+    }
+
+    // With the meter after frames were put to it.
+    pub(crate) fn frames(self, text: &[u8]) -> State {
+        let session = self.session;
+        let mut replay = session.state;
+        let meter = put(replay.meter, replay.energies, text, self.room);
+        replay.meter = meter;
+        self.with_replay(replay)
     }
 
     // With a value outside its range.

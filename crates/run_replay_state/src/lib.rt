@@ -1,6 +1,0 @@
-// Parts of the test programs of the replay: what a script gives to a replay, the output buffer, what is written of a replay, and the texts of the
-// replay program.
-pub mod given;
-pub mod memory;
-pub mod shown;
-pub mod text;
