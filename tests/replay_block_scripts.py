@@ -230,7 +230,8 @@ def frames():
     for bytes_ in ([0x68], A[:11], A[:-1], wrong, [0] * 12, [0xFF] * 40, A[:9] + [201] + A[10:], A[:9] + [5] + A[10:]):
         put("frames", bytes_)
     title("cut by their data lengths: a frame behind a piece that is none is answered, one that is cut through is not")
-    for bytes_ in ([0] * 12 + A, [0] * 13 + A, [0] * 9 + [4] + [0] * 6 + A, wrong + A, A + wrong + C, A + [0x16], A[:12] + A):
+    for bytes_ in ([0] * 12 + A, [0] * 13 + A, [0] * 9 + [4] + [0] * 6 + A, [0] * 9 + [201] + [0] * 203 + A, wrong + A,
+                   A + wrong + C, A + [0x16], A[:12] + A):
         put("frames", bytes_)
     for what in BREAKS:
         title("16, by %s if it is of the meter, before 1" % what)
