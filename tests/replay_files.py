@@ -23,20 +23,14 @@ sys.dont_write_bytecode = True  # no compiled copies beside the sources
 
 import command
 import replay_day
+import replay_texts
 from replay_model import BAD_RECORD, CUT_OFF, KEY, PULSE, SILENT, STEP_MEMORY, day, start
 from replay_scripts import heard, pulse
+from replay_texts import BAD_ADDRESS, NOT_ONE, USAGE
 from printed import A, C
 
 BLOCK = replay_day.BLOCK
 ADDRESS = "".join("%02X" % b for b in reversed(replay_day.ADDRESS))
-USAGE = ("usage: replay_trace ADDRESS < TRACE   plays a trace to a fresh meter of this address, twelve digits, and lists "
-         "its replies")
-NOT_ONE = "replay_trace: one argument is needed, the address of the meter"
-BAD_ADDRESS = "replay_trace: the address has to be twelve digits, and not twelve nines"
-MEANINGS = {
-    BAD_RECORD: "an unknown kind of record, or a field out of its range",
-    CUT_OFF: "the trace ends inside the record",
-}
 
 
 # ---- what must be written --------------------------------------------------------------------------------------------
@@ -44,39 +38,28 @@ class Played:
     """A trace replayed by the model up to its end, or to a record that is refused."""
 
     def __init__(self, address, trace):
-        """Steps, one record each, with the frames put to the meter counted."""
-        replay = start(address)
-        answer, self.frames = replay.meter.answer, 0
-
-        def counted(*frame):
-            """An answer of the meter, counted."""
-            self.frames += 1
-            return answer(*frame)
-
-        replay.meter.answer = counted
-        self.lines, self.records, at = [], 0, 0
+        """Steps, one record each."""
+        replay, at, records = start(address), 0, 0
+        self.lines = []
         # For each place of a record how many records, frames and replies come before it.
         self.before = {}
         while True:
-            self.before[at] = self.records, self.frames, len(self.lines)
-            self.answer, lines = replay.step(trace, at, STEP_MEMORY)
-            if self.answer[0] != "played":
+            self.before[at] = records, replay.frames, len(self.lines)
+            answer, lines = replay.step(trace, at, STEP_MEMORY)
+            if answer[0] != "played":
+                self.ends = ending(answer, self.before[at])  # the line on standard error
                 return
             self.lines += lines
-            self.records += 1
-            at = self.answer[-1]
-
-    def ends(self):
-        """The line on standard error."""
-        return ending(self.answer, (self.records, self.frames, len(self.lines)))
+            records += 1
+            at = answer[-1]
 
 
 def ending(answer, counts):
     """The line on standard error of a replay with this last answer."""
     if answer == ("done",):
-        return "replay_trace: records %d, frames put to the meter %d, replies %d" % counts
+        return replay_texts.counts(*counts)
     _bad, number, place = answer
-    return "replay_trace: refused with %d at place %d: %s" % (number, place, MEANINGS[number])
+    return replay_texts.refusal(number, place)
 
 
 # ---- runs ------------------------------------------------------------------------------------------------------------
@@ -127,7 +110,7 @@ class Runs:
     def short(self, name, trace, address=A[1:7]):
         """A replay of a short trace, which the model plays anew."""
         played = Played(address, trace)
-        self.replay(name, trace, played.lines, played.ends(), "".join("%02X" % b for b in reversed(address)))
+        self.replay(name, trace, played.lines, played.ends, "".join("%02X" % b for b in reversed(address)))
 
     def fails(self, name, where, **how):
         """A run that must say, with a reason, that standard input or output fails, and nothing else."""
@@ -201,9 +184,9 @@ def run_long(runs, trace):
     """The working day, whole and in part: refusals around the ends of blocks, each far behind the first."""
     whole = Played(replay_day.ADDRESS, trace)
     places = sorted(whole.before)
-    runs.replay("the day", trace, whole.lines, whole.ends())
+    runs.replay("the day", trace, whole.lines, whole.ends)
     for most, pauses in ((9000, 0.1), (700, 0.02)):
-        runs.expect("the day in a pipe, by %d" % most, [ADDRESS], whole.lines, [whole.ends()],
+        runs.expect("the day in a pipe, by %d" % most, [ADDRESS], whole.lines, [whole.ends],
                     feed=small_writes(trace, most, pauses))
     make = random.Random(645)
     for end in [BLOCK * n for n in range(1, len(trace) // BLOCK + 1)]:

@@ -47,12 +47,19 @@ class Replay:
         """A fresh receiver and a fresh meter of an address. One that is not good starts no replay: the meter is out of its
         ranges, and every step refuses it."""
         self.receiver, self.meter = Receiver(), Meter(list(address))
+        self.frames = 0  # how many frames were sent to the meter
 
     def hear(self, symbol):
         """A symbol heard: the replies of the meter to the frames that the receiver hands on, sent to it in order."""
         (size, _count), self.receiver, memory = self.receiver.call(symbol, [0] * LEAST_MEMORY)
         handed = memory[:size]
-        answers = [self.meter.answer(bytes_, LEAST_MEMORY) for bytes_ in frames_at(handed, taken(handed))]
+        frames = frames_at(handed, taken(handed))
+        self.frames += len(frames)
+        return self.replies(frames)
+
+    def replies(self, frames):
+        """The replies of the meter to frames, sent to it in order."""
+        answers = [self.meter.answer(bytes_, LEAST_MEMORY) for bytes_ in frames]
         return [answer for answer in answers if not isinstance(answer, int)]
 
     def play(self, kind, body):
@@ -122,7 +129,39 @@ def replayed(address, trace):
 
 
 # ---- the output of run_replay ----------------------------------------------------------------------------------------
-class Program(command.Script):
+class Holding(command.Script):
+    """A script that holds a replay, and the calls that change it past its steps or show it."""
+
+    def call_break(self, rest):
+        """A value put into the receiver or the meter past their calls."""
+        receiver, meter = self.replay.receiver, self.replay.meter
+        if rest == "receiver":
+            receiver.count = 300
+        elif rest == "kept":
+            receiver.count = 1
+        elif rest == "meter":
+            meter.address = [0xAA] * 6
+        elif rest == "register":
+            meter.registers[0x04000101] = [0xFA] + meter.registers[0x04000101][1:]
+        elif rest == "reading":
+            meter.rows[1][12][4] = 100000000
+        else:
+            return None
+        return []
+
+    def call_state(self, _rest):
+        """What the meter holds besides its readings, and the bytes that the receiver keeps."""
+        kept, count, shown, _rows = self.replay.holds()
+        assert count <= MOST_KEPT
+        return shown + [("kept " + hexed(kept)).rstrip()]
+
+    def call_reading(self, rest):
+        """A reading, by direction, row and column, as it is sent."""
+        direction, row, column = numbers(rest)
+        return ["reading " + hexed(packed(self.replay.meter.rows[direction][row][column], 4))]
+
+
+class Program(Holding):
     """What run_replay holds between its lines."""
 
     def __init__(self):
@@ -160,34 +199,6 @@ class Program(command.Script):
         """Steps."""
         answer, self.place, lines = self.replay.steps(self.trace, self.place, self.room, int(rest))
         return lines + [" ".join(str(word) for word in answer)]
-
-    def call_break(self, rest):
-        """A value put into the receiver or the meter past their calls."""
-        receiver, meter = self.replay.receiver, self.replay.meter
-        if rest == "receiver":
-            receiver.count = 300
-        elif rest == "kept":
-            receiver.count = 1
-        elif rest == "meter":
-            meter.address = [0xAA] * 6
-        elif rest == "register":
-            meter.registers[0x04000101] = [0xFA] + meter.registers[0x04000101][1:]
-        elif rest == "reading":
-            meter.rows[1][12][4] = 100000000
-        else:
-            return None
-        return []
-
-    def call_state(self, _rest):
-        """What the meter holds besides its readings, and the bytes that the receiver keeps."""
-        kept, count, shown, _rows = self.replay.holds()
-        assert count <= MOST_KEPT
-        return shown + [("kept " + hexed(kept)).rstrip()]
-
-    def call_reading(self, rest):
-        """A reading, by direction, row and column, as it is sent."""
-        direction, row, column = numbers(rest)
-        return ["reading " + hexed(packed(self.replay.meter.rows[direction][row][column], 4))]
 
 
 def day():

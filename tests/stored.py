@@ -20,9 +20,10 @@ import line_vectors
 import list_model
 import model
 import receiver_model
+import replay_block_model
 import replay_model
 
-GENERATORS = (model, line_model, line_vectors, receiver_model, list_model, replay_model)
+GENERATORS = (model, line_model, line_vectors, receiver_model, list_model, replay_model, replay_block_model)
 
 
 def files():

@@ -1,6 +1,6 @@
 // The walker of a replay: document 02, W1. It holds the lent trace and its place in it; receiver, meter and readings travel beside it as one
-// value. Its functions take it apart, and `replay::step_at` does the work. That the replies and the meter at the end are those of the calls made
-// by hand is `walked-by-hand` in specs/Walked.antt.
+// value. Its functions take it apart, and `replay::step_at` does the work. A program holds no struct with a reference in it, and calls `walk_from`.
+// That the replies and the meter at the end are those of the calls made by hand is `walked-by-hand` in specs/Walked.antt.
 use replay::ReplayState;
 use replay::Stepped;
 use replay::step_at;
@@ -37,4 +37,11 @@ pub fn moved<'a>(walker: Walker<'a>, at: usize) -> Walker<'a>
         trace: walker.trace,
         at,
     }
+}
+
+// One step over a trace from a place on: a walker of it is made, moved there, and stepped.
+pub fn walk_from(trace: &[u8], at: usize, state: ReplayState, out: &mut [u8]) -> Stepped
+    ensures { λ r. ⌜ outcome r (now (out .exit)) ≡ stepped (now (trace .entry)) at state (now (out .entry)) ⌝ }
+{
+    step(moved(begin(trace), at), state, out)
 }

@@ -5,7 +5,7 @@
 //     trace HH ..                       a trace, from its first record on
 //     more HH ..                        more bytes behind the trace, which has at most 65,536
 //     place N                           the place of the next step
-//     short N                           the size of the output buffer for later steps: at most 9,000, and 8,192 at the start
+//     short N                           the size of the output buffer for later steps: at most 12,000, and 8,192 at the start
 //     steps N                           so many steps, or fewer where one plays nothing: the lines of the replies, and the last answer
 //     break WORD                        sets a value outside document 01's ranges: receiver, kept, meter, register or reading
 //     state                             what the meter holds besides its readings, and the bytes that the receiver keeps

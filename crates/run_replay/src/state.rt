@@ -1,16 +1,14 @@
 // What stands between two lines of the script, and what each call besides the steps makes of it.
-use energy::Energies;
-use energy::Rows;
-use energy::reading;
 use meter_counting::HostAnswer;
 use replay::ReplayState;
-use run_script_answers::told;
+use run_replay_parts::given::address_of;
+use run_replay_parts::given::broken;
+use run_replay_parts::shown;
 use run_text::count::sum;
 use run_text::read::BytesRead;
 use run_text::read::Numbers;
 use run_text::read::read_bytes;
 use run_text::write::write;
-use run_text::write::write_bytes;
 use run_text::write::write_numbered;
 
 // The replay, the place of its next step, the size of the output buffer for a step, and how many bytes the trace has at the front of a
@@ -20,83 +18,6 @@ pub(crate) struct State {
     pub place: usize,
     pub room: usize,
     pub length: usize,
-}
-
-// The byte that two digits write, or 255, which is no two digits of an address, where they write none.
-fn byte_of(high: u8, low: u8) -> u8 {
-    let text = [b' ', high, low];
-    let mut byte = [0u8; 1];
-    let BytesRead::Count(_) = read_bytes(&text, &mut byte) else {
-        return 255;
-    };
-    byte[0]
-}
-
-// The address of twelve digits, high digits first, behind a blank; all its bytes are 255 where there are not as many.
-fn address_of(text: &[u8]) -> [u8; 6] {
-    if text.len() != 13 {
-        return [255u8; 6];
-    }
-    [
-        byte_of(text[11], text[12]),
-        byte_of(text[9], text[10]),
-        byte_of(text[7], text[8]),
-        byte_of(text[5], text[6]),
-        byte_of(text[3], text[4]),
-        byte_of(text[1], text[2]),
-    ]
-}
-
-// The rows of a direction, 0 for forward.
-fn rows_of(energies: Energies, direction: u32) -> Rows {
-    if direction == 0 {
-        return energies.forward_rows();
-    }
-    energies.reverse_rows()
-}
-
-// The reverse rows with a last reading above its range.
-fn with_large(rows: Rows) -> Rows {
-    let mut next = rows;
-    let mut row = next[12];
-    row[4] = reading::of(100000000);
-    next[12] = row;
-    next
-}
-
-// The replay with a value outside its range, which a word behind a blank names.
-fn broken(replay: ReplayState, word: &[u8]) -> ReplayState {
-    let mut receiver = replay.receiver;
-    let mut meter = replay.meter;
-    let mut energies = replay.energies;
-    if check::same(word, b" receiver") {
-        receiver.count = 300;
-    } else if check::same(word, b" kept") {
-        receiver.count = 1;
-    } else if check::same(word, b" meter") {
-        meter.address = [0xAAu8; 6];
-    } else if check::same(word, b" register") {
-        let mut registers = meter.registers;
-        registers[0] = 0xFA;
-        meter.registers = registers;
-    } else if check::same(word, b" reading") {
-        energies = Energies::new(energies.forward_rows(), with_large(energies.reverse_rows()));
-    } else {
-        write(b"nothing is broken\n");
-    }
-    ReplayState {
-        receiver,
-        meter,
-        energies,
-    }
-}
-
-// Writes the bytes that a receiver keeps, unless it counts more than it has.
-fn write_kept(kept: &[u8], count: usize) {
-    if kept.len() < count {
-        return;
-    }
-    write_bytes(b"kept", &kept[0..count]);
 }
 
 impl State {
@@ -176,26 +97,13 @@ impl State {
 
     // As it is, and shown.
     pub(crate) fn show(self) -> State {
-        let replay = self.replay;
-        told::show(replay.meter);
-        let receiver = replay.receiver;
-        let kept = receiver.kept;
-        write_kept(&kept, receiver.count);
+        shown::show(self.replay);
         self
     }
 
     // As it is, after a reading was shown, by direction, row and column.
     pub(crate) fn reading(self, numbers: Numbers) -> State {
-        let replay = self.replay;
-        let row = numbers.c;
-        let column = numbers.d;
-        if 13 <= row || 5 <= column {
-            return self;
-        }
-        let rows = rows_of(replay.energies, numbers.b);
-        let shown = rows[row as usize];
-        let bytes = reading::bytes_of(shown[column as usize]);
-        write_bytes(b"reading", &bytes);
+        shown::show_reading(self.replay, numbers);
         self
     }
 }

@@ -1,40 +1,16 @@
-// Steps of a replay, and what is written of them: the lines of the replies as they come, and the last answer.
-ghost use Prim.Native.Nat.{_≤_};
+// Steps of a replay, and what is written of them: the lines of the replies as they come, and the last answer. Each step is made by a walker of the
+// trace, whose contract is that of `replay::step_at`.
 use crate::state::State;
 use replay::StepAnswer;
-use replay::step_at;
+use replay_walker::walk_from;
+use run_replay_parts::memory::MEMORY;
+use run_replay_parts::memory::at_most;
+use run_replay_parts::memory::write_text;
 use run_text::memory::FILL;
-use run_text::memory::is_filled;
 use run_text::write::write;
 use run_text::write::write_number;
 use run_text::write::write_numbered;
 use run_text::write::write_two;
-
-// How many bytes of an output buffer there are.
-const MEMORY: usize = 9000;
-
-// How many of them are lent: as many as asked, at most all.
-fn lent(room: usize) -> usize
-    ensures { λ r. ⌜ r ≤ 9000 ⌝ }
-{
-    if room < MEMORY {
-        return room;
-    }
-    MEMORY
-}
-
-// Writes the text at the front of the output buffer, and says so where bytes beyond it are changed.
-fn write_text(out: &[u8; MEMORY], length: usize) {
-    let all: &[u8] = out;
-    if MEMORY < length {
-        write(b"memory changed\n");
-        return;
-    }
-    write(&all[0..length]);
-    if !is_filled(&all[length..]) {
-        write(b"memory changed\n");
-    }
-}
 
 // Writes the answer, unless a record is played and more steps are to come; and says whether they are.
 fn goes_on(answer: StepAnswer, left: u32) -> bool {
@@ -107,10 +83,10 @@ struct Made {
 // One step in an output buffer that is filled before it, with so many left to make.
 fn step(state: State, left: u32, trace: &[u8]) -> Made {
     let mut out = [FILL; MEMORY];
-    let size = lent(state.room);
+    let size = at_most(MEMORY, state.room);
     let replay = state.replay;
     let place = state.place;
-    let stepped = step_at(trace, place, replay, &mut out[0..size]);
+    let stepped = walk_from(trace, place, replay, &mut out[0..size]);
     let answer = stepped.answer;
     write_text(&out, text_of(answer));
     let after = stepped.state;
