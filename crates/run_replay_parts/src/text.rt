@@ -2,43 +2,49 @@
 use crate::memory::MEMORY;
 use crate::memory::at_most;
 use crate::memory::write_text;
+use replay_address::read_address;
+use replay_text::Message;
 use replay_text::Reason;
 use replay_text::Written;
-use replay_text::address::read_address;
 use run_text::memory::FILL;
 use run_text::write::write;
 use run_text::write::write_bytes;
 use run_text::write::write_either;
 use run_text::write::write_numbered;
 
-// Writes the answer to the writing of a text, and the text in the output buffer.
-fn write_written(written: Written, out: &[u8; MEMORY]) {
+// Writes a message, the answer and the text in the output buffer.
+fn show(message: Message, room: usize) {
+    let mut out = [FILL; MEMORY];
+    let size = at_most(MEMORY, room);
+    let written = replay_text::write_message(message, &mut out[0..size]);
     match written {
         Written::Length(n) => {
             write_numbered(b"written ", n);
-            write_text(out, n);
+            write_text(&out, n);
         }
         Written::TooLittleMemory => {
             write(b"too little memory\n");
-            write_text(out, 0);
+            write_text(&out, 0);
         }
     }
 }
 
 // Writes the text of a refusal at a place.
 pub fn refusal(number: u32, place: u64, room: usize) {
-    let mut out = [FILL; MEMORY];
-    let size = at_most(MEMORY, room);
-    let written = replay_text::write_refused((number % 256) as u8, place, &mut out[0..size]);
-    write_written(written, &out);
+    let refusal = (number % 256) as u8;
+    show(Message::BadRecord { refusal, place }, room);
 }
 
 // Writes the text of so many records, frames and replies.
 pub fn counts(records: u64, frames: u64, replies: u64, room: usize) {
-    let mut out = [FILL; MEMORY];
-    let size = at_most(MEMORY, room);
-    let written = replay_text::write_counts(records, frames, replies, &mut out[0..size]);
-    write_written(written, &out);
+    show(
+        Message::Replayed {
+            records,
+            frames,
+            replies,
+        },
+        room,
+    );
 }
 
 // The reason of a number.
@@ -52,10 +58,7 @@ fn reason_of(number: u32) -> Reason {
 
 // Writes the text of how the program is called, for the reason of a number.
 pub fn usage(number: u32, room: usize) {
-    let mut out = [FILL; MEMORY];
-    let size = at_most(MEMORY, room);
-    let written = replay_text::write_usage(reason_of(number), &mut out[0..size]);
-    write_written(written, &out);
+    show(Message::Usage(reason_of(number)), room);
 }
 
 // Writes the address that is read from a text behind a blank.
