@@ -66,8 +66,8 @@ use Rattle.replay.specs.Said as replayed
 use Rattle.replay.specs.Said.{stepSaid, CannotStep, start-refused}
 use Rattle.replay.specs.StepWords as replay
 use Rattle.replay.specs.declared.ReplayState.{ReplayState}
-use Rattle.replay_block.specs.Block.{blockReplayed}
-use Rattle.replay_block.specs.BlockWords.{blockPlayedSaid, CannotPlay, play-refuses}
+use Rattle.replay_block.specs.Block.{begun, blockReplayed}
+use Rattle.replay_block.specs.BlockWords.{blockPlayedSaid, CannotPlay, play-refuses, begin-refused}
 use Rattle.replay_block.specs.declared.Session.{Session}
 use Rattle.replay_text.specs.Texts as texts
 use Rattle.replay_text.specs.Said as said
@@ -134,8 +134,8 @@ pub record RefusalsChangeNothing : Type 0 where
       → let o = built request m in Refuses (builtSaid (o .answer)) (CannotBuild request m) m (o .memory)
   pub judge : (request : Request) (bytes m : List ℕ) → RequestSized request
       → let o = judged request bytes m in Refuses (judgementSaid (o .answer)) ((n : ℕ) × FirstFails (judgeWords request bytes m) n) m (o .memory)
-  -- A replay: what stands at the front of the rest of a trace, frames put to a meter, the start, and a step. What comes back from a start that is refused
-  -- is refused by every step with 16.
+  -- A replay: what stands at the front of the rest of a trace, frames put to a meter, the start, and a step, by `step_at`, by the walker's `step` or by
+  -- `walk_from`. What comes back from a start that is refused is refused by every step with 16.
   pub trace-front : (rest : List ℕ)
       → Refuses (frontSaid (frontOf rest)) (NoGoodRecord rest) rest rest
   pub put-frames : (bytes : List ℕ) (m : Meter) (energies : Energies) (memory : List ℕ)
@@ -147,6 +147,10 @@ pub record RefusalsChangeNothing : Type 0 where
   pub step-replay : (trace : List ℕ) (at : ℕ) (s : ReplayState) (m : List ℕ)
       → let o = stepped trace at s m in
       Refuses {S = ReplayState × List ℕ} (stepSaid (o .answer .answer)) (CannotStep trace at s m) (s, m) (o .answer .state, o .memory)
+  -- A session of blocks: what comes back from a beginning that is refused is refused by every block with 16.
+  pub begin-blocks : (address : List ℕ)
+      → let b = begun address in
+      (IsRefusal (hostSaid (b .answer)) ↔ (Good address → ⊥)) × (IsRefusal (hostSaid (b .answer)) → replay.InRanges (b .session .state) → ⊥)
   -- A block of a trace: the records before a refused one are played, and that one does nothing (`block-right`).
   pub play-block : (kept read : ℕ) (s : Session) (buffer text : List ℕ)
       → let o = blockReplayed kept read s buffer text in
@@ -187,6 +191,7 @@ demand-1 =
       put-frames = put-refuses;
       start-replay = start-refused;
       step-replay = replayed.step-refuses;
+      begin-blocks = begin-refused;
       play-block = play-refuses;
       write-message = λ message. said.writing-refuses (texts.messageText message);
       exchange = exchange-answers;

@@ -11,7 +11,7 @@ use lib.Seq.{take-append-seam, drop-append-seam}
 use lib.Dec.{leb, eqb}
 use borrow.Author.Tests.{leb-true, leb-false, eqb-true, eqb-false}
 use Rattle.laws.specs.Memory.{over}
-use Rattle.laws.specs.Said.{Said, values, refusal, Refuses, refuses, answers}
+use Rattle.laws.specs.Said.{Said, values, refusal, IsRefusal, Refuses, refuses, answers}
 use Rattle.laws.specs.Test.{pick}
 use Rattle.laws.specs.TestLaws.{pick-cases}
 use Rattle.trace.specs.Trace.{frontOf}
@@ -19,9 +19,11 @@ use Rattle.trace.specs.FrontCases.{FrontCase, ended, no-kind, cut-off, bad-fiel
 use Rattle.trace.specs.declared.Front.{Front}
 use Rattle.trace.specs.declared.Front.the-variants as front
 use Rattle.item_address.specs.Address.{Good}
+use Rattle.meter_counting.specs.Said.{hostSaid}
 use Rattle.meter_counting.specs.declared.HostAnswer.the-variants.{Done, Refused as HostRefused}
 use Rattle.replay.specs.Replay.{isWithin, started}
 use Rattle.replay.specs.ByHand.{handStart}
+use Rattle.replay.specs.Said.{start-refused}
 use Rattle.replay.specs.StartWords.{start-words}
 use Rattle.replay.specs.StepWords.{InRanges, within-iff}
 use Rattle.replay_block.specs.declared.Begun.{Begun}
@@ -385,3 +387,10 @@ unfolding begun started
 begin-words address =
     let start = start-words address in
     record { state = refl; place = refl; records = refl; frames = refl; replies = refl; made = start .made; refused = start .refused }
+
+-- A beginning is refused exactly where the address is not good, and what then comes back is out of its ranges.
+pub begin-refused : (address : List ℕ)
+    → let b = begun address in
+    (IsRefusal (hostSaid (b .answer)) ↔ (Good address → ⊥)) × (IsRefusal (hostSaid (b .answer)) → InRanges (b .session .state) → ⊥)
+unfolding begun
+begin-refused address = start-refused address
