@@ -3,7 +3,7 @@ use Prim.Native.Nat.{ℕ, suc, _+_, _-_, _*_, _≤_, _<_}
 use native.Mathlib.Omega.{arith}
 use native.Mathlib.Decide.{decLt}
 use mathlib.Core.Path.{_≡_, refl, sym, ap, subst, _∙_}
-use mathlib.Core.Bool.{Bool, true, false, false≢true, _&&_, and-eq-true-iff}
+use mathlib.Core.Bool.{Bool, true, false, true≢false, false≢true, _&&_, _||_, and-eq-true-iff}
 use mathlib.Core.List.{List, [], _∷_, _++_, map}
 use lib.ListN.{length, take, drop, getD, length-append, length-drop, length-take}
 use lib.Seq.{take-append-seam, drop-drop, drop-cons}
@@ -225,6 +225,24 @@ pub quiet-none : {block : List ℕ} {start : ℕ} {r : Receiver} {frames : List 
 quiet-none h back = elim (decLt 0 (h .bytes)) [
   | yes some ↦ absurd (omega (arith, h .later some, h .from, back))
   | no few ↦ ap isQuiet (h .answer) ∙ eq-eqb (h .bytes) 0 (omega arith)
+]
+
+-- By the two tests of a place: neither stands there, or what is heard from there on ends later.
+pub none-stands : {block : List ℕ} {at : ℕ} → (standsAt block at 1 2 || standsAt block at 2 1) ≡ false → NoneStands block at
+none-stands {block} {at} e = by (standsAt block at 1 2) (standsAt block at 2 1) refl refl e
+  where
+    by : (a b : Bool) → standsAt block at 1 2 ≡ a → standsAt block at 2 1 ≡ b → (a || b) ≡ false → NoneStands block at
+    by false false no-byte no-silence e = record { no-byte = no-byte; no-silence = no-silence }
+    by false true no-byte silence e = absurd (true≢false e)
+    by true b byte any e = absurd (true≢false e)
+
+pub heard-later : {block : List ℕ} {start : ℕ} {r : Receiver} {frames : List ℕ} {heard : Heard} → HeardOn block start r frames heard →
+    (heard .at ≡ start → NoneStands block start) → (standsAt block start 1 2 || standsAt block start 2 1) ≡ true → start < heard .at
+heard-later {start = start} {heard = heard} h stops e = elim (decLt start (heard .at)) [
+  | yes later ↦ later
+  | no same ↦
+      let none-there = stops (omega (arith, h .from)) in
+      absurd (false≢true (sym (λ i. none-there .no-byte i || none-there .no-silence i) ∙ e))
 ]
 
 -- A byte, and a silence, behind what delivered nothing.

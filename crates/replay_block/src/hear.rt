@@ -16,7 +16,7 @@ pub(crate) struct Heard {
 }
 
 // Whether a record of a kind, which has so many bytes, stands whole at a place of the block.
-fn stands_at(block: &[u8], at: usize, kind: u8, size: usize) -> bool
+pub(crate) fn stands_at(block: &[u8], at: usize, kind: u8, size: usize) -> bool
     requires { ⌜ (at ≤ length (now block)) × (1 ≤ size) ⌝ }
     ensures { λ r. ⌜ r ≡ standsAt (now (block .entry)) at kind size ⌝ }
 {

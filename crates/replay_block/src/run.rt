@@ -3,6 +3,7 @@
 use crate::Session;
 use crate::hear::Heard;
 use crate::hear::hear_on;
+use crate::hear::stands_at;
 use frame::MOST_FRAME;
 use line::Answer;
 use replay::ReplayState;
@@ -108,22 +109,23 @@ fn host_turn(block: &[u8], run: Run) -> Run
     }
 }
 
-// What is heard from the place on, or the host's call that stands there.
+// What is heard from the place on where a byte or a silence stands there, and else the host's call.
 fn turn(block: &[u8], run: Run, out: &mut [u8]) -> Run
     requires { ⌜ Ready (now block) run (now out) ⌝ }
     ensures { λ r. ⌜ Turns (now (block .entry)) run r (now (out .entry)) (now (out .exit)) ⌝ }
 {
+    let at = run.at;
+    let byte = stands_at(block, at, 1, 2);
+    let silence = stands_at(block, at, 2, 1);
+    if !(byte | silence) {
+        return host_turn(block, run);
+    }
     let mut frames = [0u8; MOST_FRAME];
     let session = run.session;
     let state = session.state;
     let receiver = state.receiver;
-    let at = run.at;
     let heard = hear_on(block, at, receiver, &mut frames);
-    let to = heard.at;
-    if at < to {
-        return put_heard(block, run, heard, &frames, out);
-    }
-    host_turn(block, run)
+    put_heard(block, run, heard, &frames, out)
 }
 
 // Plays the good records of a block from its first on, and writes the lines of their replies to the front of the output buffer.
