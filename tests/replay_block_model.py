@@ -138,7 +138,15 @@ class Program(Holding):
         if answer[0] == "played":
             self.kept = answer[-1]
             moved = front[:self.kept]
-        return [spoken(answer)] + lines + [("front " + hexed(moved)).rstrip(), spoken(["session"] + self.replay.counts)]
+        shown = [("front " + hexed(moved)).rstrip(), spoken(["session"] + self.replay.counts)]
+        return [spoken(answer)] + lines + shown + self.ending(answer, int(rest))
+
+    def ending(self, answer, read):
+        """What the replay program says behind an answer to a block with so many bytes read, where it is the last."""
+        place, *counts = self.replay.counts
+        if answer[0] != "played":
+            return written([replay_texts.refusal(answer[1], place)], MEMORY)
+        return [] if read else written([replay_texts.counts(*counts)], MEMORY)
 
     def call_frames(self, rest):
         """Frames put to the meter."""

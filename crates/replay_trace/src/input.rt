@@ -6,6 +6,7 @@ use libc::STDIN_FILENO;
 use libc::STDOUT_FILENO;
 use replay_block::BlockAnswer;
 use replay_block::Session;
+use replay_end::is_last;
 
 // How many bytes are read at a time.
 const BLOCK: usize = 8192;
@@ -14,10 +15,8 @@ const BLOCK: usize = 8192;
 pub(crate) enum Next {
     // More is to be read.
     More,
-    // It has ended, and every line is written.
-    Ended,
-    // A record is refused, by document 02's number, at the session's place; every line before it is written.
-    Refused(u8),
+    // This was the last answer; every line is written.
+    Last(BlockAnswer),
     // It cannot be read.
     Unread,
     // The lines cannot be written.
@@ -42,10 +41,10 @@ fn stopped(session: Session, next: Next) -> Progress
     }
 }
 
-// How a trace goes on behind a read of so many bytes: a read of none is its end.
-fn after(read: usize) -> Next {
-    if read == 0 {
-        return Next::Ended;
+// How a trace goes on behind an answer to a block with so many bytes read.
+fn after(answer: BlockAnswer, read: usize) -> Next {
+    if is_last(answer, read) {
+        return Next::Last(answer);
     }
     Next::More
 }
@@ -64,9 +63,9 @@ fn play_read(
     let session = played.session;
     let answer = played.answer;
     match answer {
-        // By `blocks-replayed` none comes: both memories are long enough for a block, and the session has gone on from its beginning.
-        BlockAnswer::Refused(number) => {
-            return stopped(session, Next::Refused(number));
+        // Only memory that is too short is refused (`blocks-replayed`), and both are long enough.
+        BlockAnswer::Refused(_) => {
+            return stopped(session, Next::Last(answer));
         }
         BlockAnswer::Played {
             text: used,
@@ -78,17 +77,17 @@ fn play_read(
             return Progress {
                 session,
                 kept: left,
-                next: after(read),
+                next: after(answer, read),
             };
         }
         BlockAnswer::Stopped {
-            refusal,
+            refusal: _,
             text: used,
         } => {
             if !io::write_all(STDOUT_FILENO, &text[..used]) {
                 return stopped(session, Next::Unwritten);
             }
-            return stopped(session, Next::Refused(refusal));
+            return stopped(session, Next::Last(answer));
         }
     }
 }
@@ -111,8 +110,7 @@ fn turn(session: Session, kept: usize, buffer: &mut [u8], text: &mut [u8]) -> Pr
 fn goes_on(next: Next) -> bool {
     match next {
         Next::More => true,
-        Next::Ended => false,
-        Next::Refused(_) => false,
+        Next::Last(_) => false,
         Next::Unread => false,
         Next::Unwritten => false,
     }

@@ -10,14 +10,15 @@ use libc::STDOUT_FILENO;
 use meter_counting::HostAnswer;
 use replay_address::read_address;
 use replay_block::Session;
+use replay_end::last_message;
 use replay_text::Message;
 use replay_text::Reason;
 use replay_text::Written;
 
-// The length of a message for standard error, in which every text fits.
+// The length of the memory for a message.
 const MESSAGE: usize = 256;
 
-// Says a message. Every one fits, so that there always is a text.
+// Says a message; one that does not fit is not said.
 fn say(fd: i32, message: Message) {
     let mut text = [0u8; MESSAGE];
     let written = replay_text::write_message(message, &mut text);
@@ -30,18 +31,6 @@ fn say(fd: i32, message: Message) {
     io::write_all(fd, &text[..length]);
 }
 
-// Says how many records were played, how many frames put to the meter, and how many replies it gave.
-fn say_counts(session: Session) {
-    say(
-        STDERR_FILENO,
-        Message::Replayed {
-            records: session.records,
-            frames: session.frames,
-            replies: session.replies,
-        },
-    );
-}
-
 // Replays the trace on standard input, and says how it ended. A block and the bytes of a record kept before it, at most 6, are read and played
 // at a time; the text of so many bytes has 8,192 bytes, and 18 for each of them.
 fn replay_input(session: Session) {
@@ -52,14 +41,7 @@ fn replay_input(session: Session) {
     let last = end.session;
     match next {
         Next::More => {}
-        Next::Ended => say_counts(last),
-        Next::Refused(refusal) => say(
-            STDERR_FILENO,
-            Message::BadRecord {
-                refusal,
-                place: last.place,
-            },
-        ),
+        Next::Last(answer) => say(STDERR_FILENO, last_message(answer, last)),
         Next::Unread => os::fail(b"replay_trace: standard input"),
         Next::Unwritten => os::fail(b"replay_trace: standard output"),
     }

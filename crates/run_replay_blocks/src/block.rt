@@ -4,9 +4,12 @@ use crate::state::State;
 use replay_block::BlockAnswer;
 use replay_block::Session;
 use replay_block::play_block;
+use replay_end::is_last;
+use replay_end::last_message;
 use run_replay_parts::memory::MEMORY;
 use run_replay_parts::memory::at_most;
 use run_replay_parts::memory::write_text;
+use run_replay_parts::text;
 use run_text::memory::FILL;
 use run_text::read::BytesRead;
 use run_text::read::read_bytes;
@@ -39,6 +42,13 @@ fn write_session(session: Session) {
         session.replies as usize,
         b"\n",
     );
+}
+
+// Writes what the replay program says behind an answer to a block with so many bytes read, where it is the last.
+fn write_end(answer: BlockAnswer, read: usize, session: Session) {
+    if is_last(answer, read) {
+        text::show(last_message(answer, session), MEMORY);
+    }
 }
 
 // What an answer says: how many bytes of text there are, how many were moved to the front of the buffer, and how many are kept there: only a block
@@ -82,7 +92,7 @@ fn write_block(answer: BlockAnswer, before: usize) -> Said {
 }
 
 // Plays a block of the bytes kept and of so many behind them, in an output buffer that is filled before it, and writes the answer, the text, the
-// front of the buffer and the numbers of the session.
+// front of the buffer and the numbers of the session; and what is said at the end.
 pub(crate) fn play(state: State, read: usize, buffer: &mut [u8]) -> State {
     let mut before = [0u8; BUFFER];
     if BUFFER < buffer.len() {
@@ -101,6 +111,7 @@ pub(crate) fn play(state: State, read: usize, buffer: &mut [u8]) -> State {
     write_front(&before, buffer, said.moved);
     let after = played.session;
     write_session(after);
+    write_end(answer, read, after);
     let mut next = state;
     next.session = after;
     next.kept = said.kept;

@@ -5,8 +5,8 @@
 //     number N HIGH LOW                 sets a number of the session, in two halves of 32 bits: its place, records, frames or replies for N of 0 to 3
 //     sizes OUT BUFFER KEPT             how many bytes later calls are lent: of output buffer, at most 12,000, and of the buffer of the blocks, at most
 //                                       256, both as at the start; and how many bytes at the front of the latter are kept
-//     block HH ..                       bytes read behind those kept, and this block played
-//     play N                            a block played with so many bytes read, as they stand in the buffer
+//     block HH ..                       bytes read behind those kept, and this block played; behind the last answer what the replay program says
+//     play N                            the same with so many bytes read, as they stand in the buffer
 //     frames HH ..                      frames put to the session's meter
 //     break WORD                        sets a value outside document 01's ranges: receiver, kept, meter, register or reading
 //     state                             what the meter holds besides its readings, and the bytes that the receiver keeps

@@ -12,8 +12,8 @@ use run_text::write::write_bytes;
 use run_text::write::write_either;
 use run_text::write::write_numbered;
 
-// Writes a message, the answer and the text in the output buffer.
-fn show(message: Message, room: usize) {
+// Writes a message into an output buffer of which so many bytes are lent: the answer, and the text.
+pub fn show(message: Message, room: usize) {
     let mut out = [FILL; MEMORY];
     let size = at_most(MEMORY, room);
     let written = replay_text::write_message(message, &mut out[0..size]);

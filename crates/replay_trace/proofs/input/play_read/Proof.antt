@@ -15,17 +15,17 @@ abbrev text : tie.After-play-block → List ℕ
 text c = c .play-block .last .1 .1 .1 .1 .0
 
 -- the answer to a block that is played, and to one that is stopped
-abbrev played : tie.After-answer2 → tie.After-play-block
+abbrev played : tie.After-answer → tie.After-play-block
 played c = c .before .before .before .before .before .before .before
 
-abbrev cut : tie.After-answer3 → tie.After-play-block
+abbrev cut : tie.After-answer2 → tie.After-play-block
 cut c = c .before .before .before .before .before .before .before
 
-played-within : (c : tie.After-answer2) → (c .answer2 .given .0 .0 ≤ length (text (played c))) × (c .answer2 .given .0 .1 .0 ≤ 6)
-played-within c = subst (λ (a : BlockAnswer). AnswerWithin a (text (played c))) (c .answer2 .given .1) (answer-within _ _ _ _ _ (played c .play-block .ensures))
+played-within : (c : tie.After-answer) → (c .answer .given .0 .0 ≤ length (text (played c))) × (c .answer .given .0 .1 .0 ≤ 6)
+played-within c = subst (λ (a : BlockAnswer). AnswerWithin a (text (played c))) (c .answer .given .1) (answer-within _ _ _ _ _ (played c .play-block .ensures))
 
-cut-within : (c : tie.After-answer3) → c .answer3 .given .0 .1 .0 ≤ length (text (cut c))
-cut-within c = subst (λ (a : BlockAnswer). AnswerWithin a (text (cut c))) (c .answer3 .given .1) (answer-within _ _ _ _ _ (cut c .play-block .ensures))
+cut-within : (c : tie.After-answer2) → c .answer2 .given .0 .1 .0 ≤ length (text (cut c))
+cut-within c = subst (λ (a : BlockAnswer). AnswerWithin a (text (cut c))) (c .answer2 .given .1) (answer-within _ _ _ _ _ (cut c .play-block .ensures))
 
 pub play-read-spec : {M : Type 1} → statement M
 play-read-spec =

@@ -1,0 +1,63 @@
+-- What is said at the end of a replay in words: where the last block stopped, the number with which its record is refused, and how many bytes the
+-- records before it have; where the trace has ended, how many records were played, frames put to the meter and replies given by hand.
+use Prim.Native.Nat.{ℕ, _%_}
+use native.Mathlib.Omega.{arith}
+use mathlib.Core.Path.{_≡_, refl, sym, ap, subst, _∙_}
+use mathlib.Core.Bool.{true}
+use mathlib.Core.Logic.{_↔_}
+use mathlib.Core.List.{List, [], _∷_, _++_}
+use lib.ListN.{length}
+use borrow.Author.Tests.{eqb-true, eq-eqb}
+use Rattle.item_address.specs.Address.{Good}
+use Rattle.trace.specs.Trace.{frontOf}
+use Rattle.trace.specs.Records.{written}
+use Rattle.trace.specs.declared.TraceRecord.{TraceRecord}
+use Rattle.trace.specs.declared.Front.the-variants as front
+use Rattle.replay.specs.ByHand.{HandTurn, ByHand, handStart, framesPutIn, repliesGiven}
+use Rattle.replay_block.specs.Block.{begun}
+use Rattle.replay_block.specs.BlockCalls.{BlockCall, BlockCalls, OfBytes, traceOf, keptAfter, sessionAfter}
+use Rattle.replay_block.specs.BlockWords.{stops-at}
+use Rattle.replay_block.specs.Blocks.{kept-last, blocks-replayed}
+use Rattle.replay_block.specs.declared.BlockAnswer.{BlockAnswer}
+use Rattle.replay_block.specs.declared.BlockAnswer.the-variants.{Refused, Played, Stopped}
+use Rattle.replay_text.specs.Texts.{messageText}
+use Rattle.replay_text.specs.TextWords.{Line, message-says}
+use Rattle.replay_text.specs.declared.Message.the-variants.{BadRecord, Replayed}
+use Rattle.replay_end.specs.End.{isLast, lastMessage}
+
+-- An answer is the last exactly where it is no block played, or where no bytes were read.
+pub last-words : (answer : BlockAnswer) (read : ℕ) → (isLast answer read ≡ true) ↔ ((text kept : ℕ) → answer ≡ Played text kept → read ≡ 0)
+last-words (Refused n) read = (λ _ text kept e. let z : _≡_ {A = ℕ} 0 1 = cc in absurd (omega arith), λ _. refl)
+last-words (Played text kept) read = (λ e _ _ _. eqb-true read 0 e, λ none. eq-eqb read 0 (none text kept refl))
+last-words (Stopped n text) read = (λ _ t kept e. let z : _≡_ {A = ℕ} 0 1 = cc in absurd (omega arith), λ _. refl)
+
+-- The text behind the last of calls from the beginning of a good address.
+abbrev pub lastText : List ℕ → List BlockCall → BlockCall → List ℕ
+lastText address calls c = messageText (lastMessage (c .returned .answer) (sessionAfter (begun address .session) calls))
+
+-- These records were played, and it says so.
+pub record SaysTheEnd (address : List ℕ) (calls : List BlockCall) (c : BlockCall) : Type 1 where
+  pub records : List TraceRecord
+  pub up-to : traceOf calls ≡ written records ++ keptAfter [] calls
+  pub stopped : (n text : ℕ) → c .returned .answer ≡ Stopped n text →
+      (frontOf (keptAfter [] calls) ≡ front.Refused n) × Line (lastText address calls c) (n ∷ length (written records) % 18446744073709551616 ∷ [])
+  pub ended : (text kept : ℕ) → c .returned .answer ≡ Played text kept → (turns : List HandTurn) → ByHand (handStart address) records turns →
+      Line (lastText address calls c)
+      (length records % 18446744073709551616 ∷ length (framesPutIn turns) % 18446744073709551616 ∷ length (repliesGiven turns) % 18446744073709551616 ∷ [])
+
+-- Every list of calls.
+pub end-says : (address : List ℕ) (calls earlier : List BlockCall) (c : BlockCall) → length address ≡ 6 → Good address → OfBytes calls →
+    BlockCalls [] (begun address .session) calls → calls ≡ earlier ++ (c ∷ []) → SaysTheEnd address calls c
+end-says address calls earlier c six good bytes h e =
+    let blocks = blocks-replayed address calls six good bytes h in
+    let s = sessionAfter (begun address .session) calls in
+    record {
+      records = blocks .records;
+      up-to = blocks .up-to;
+      stopped = λ n text stop. (
+        subst (λ (l : List ℕ). frontOf l ≡ front.Refused n) (sym (kept-last [] earlier c) ∙ ap (keptAfter []) (sym e)) (stops-at (blocks .each earlier c [] e .right) stop),
+        rw (stop, ← blocks .place) (message-says (BadRecord n (s .place))),
+      );
+      ended = λ text kept play turns hand.
+          rw (play, ← blocks .count, ← blocks .frames turns hand, ← blocks .replies turns hand) (message-says (Replayed (s .records) (s .frames) (s .replies)));
+    }
