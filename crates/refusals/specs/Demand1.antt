@@ -155,7 +155,7 @@ pub record RefusalsChangeNothing : Type 0 where
   pub play-block : (kept read : ℕ) (s : Session) (buffer text : List ℕ)
       → let o = blockReplayed kept read s buffer text in
       Refuses {S = Session × List ℕ × List ℕ} (blockPlayedSaid (o .answer .answer)) (CannotPlay kept read s buffer text) (s, buffer, text) (o .answer .session, o .buffer, o .text)
-  -- What the replay program says on standard error.
+  -- What the replay program says beside its listing.
   pub write-message : (message : Message) (m : List ℕ)
       → let o = texts.writing (texts.messageText message) m in
       Refuses (said.writtenSaid (o .answer)) (length m < length (texts.messageText message)) m (o .memory)
