@@ -107,10 +107,11 @@ address-spells text h =
           (omega (arith, lowest .number, first .number, second .number, third .number, fourth .number, fifth .number));
     }
 
--- What is read is an address exactly where the text is twelve digits, and then it is the address that they spell.
+-- What is read is an address exactly where the text is twelve digits, and then it is the address that they spell; else it is six zeros.
 pub record AddressReads (text : List ℕ) (read : ReadAddress) : Type 0 where
   pub exactly : (read .found ≡ true) ↔ TwelveDigits text
   pub spells : read .found ≡ true → Spells text (read .address)
+  pub zeros : (TwelveDigits text → ⊥) → read .address ≡ 0 ∷ 0 ∷ 0 ∷ 0 ∷ 0 ∷ 0 ∷ []
 
 pub address-reads : (text : List ℕ) → AddressReads text (addressRead text)
 unfolding addressRead
@@ -118,8 +119,9 @@ address-reads text =
     pick-cases (AddressReads text) (isAddress text)
     (λ yes.
     let digits = address-iff text .0 yes in
-    record { exactly = (λ found. digits, λ all. refl); spells = λ found. address-spells text digits })
+    record { exactly = (λ found. digits, λ all. refl); spells = λ found. address-spells text digits; zeros = λ none. absurd (none digits) })
     (λ no. record {
       exactly = (λ found. absurd (false≢true found), λ all. absurd (false≢true (sym no ∙ address-iff text .1 all)));
       spells = λ found. absurd (false≢true found);
+      zeros = λ none. refl;
     })
