@@ -29,8 +29,8 @@ use Rattle.replay.specs.Said.{start-refused}
 use Rattle.replay.specs.StartWords.{start-words}
 use Rattle.replay.specs.StepWords.{InRanges, within-iff}
 use Rattle.replay_block.specs.declared.Begun.{Begun}
-use Rattle.replay_block.specs.Block.{begun, recordsIn, restIn, isStop, refusalOf, linesIn, BlockOutcome, blockOutcome, blockPlayed, blockReplayed}
-use Rattle.replay_block.specs.ReadingLaws.{Stops, reads-all, rest-stops}
+use Rattle.replay_block.specs.Block.{begun, recordsIn, restIn, isStop, refusalOf, linesIn, BlockOutcome, blockOutcome, blockPlayed, blockReplayed, Stops}
+use Rattle.replay_block.specs.ReadingLaws.{reads-all, rest-stops}
 use Rattle.replay_block.specs.BlockLaws.{rest-few}
 use Rattle.replay_block.specs.BlockCalls.{BlockCall, IsBlock, keptBy, Blocking, declines, stops, plays, blocking}
 use Rattle.replay_block.specs.declared.Session.{Session}
