@@ -58,12 +58,13 @@ use Rattle.reader.specs.Said.{builtSaid, CannotBuild, build-refuses, judge-refu
 use Rattle.reader.specs.declared.Request.{Request}
 use Rattle.reader_judgement.specs.Said.{judgementSaid}
 use Rattle.trace.specs.Trace.{frontOf}
+use Rattle.trace.specs.declared.TraceRecord.{TraceRecord}
 use Rattle.trace.specs.Said.{frontSaid, NoGoodRecord, front-refuses}
 use Rattle.replay_frames.specs.Putting.{framesPut}
 use Rattle.replay_frames.specs.Said.{putSaid, CannotPut, put-refuses}
-use Rattle.replay.specs.Replay.{started, stepped}
+use Rattle.replay.specs.Replay.{started, hostCall, stepped}
 use Rattle.replay.specs.Said as replayed
-use Rattle.replay.specs.Said.{stepSaid, CannotStep, start-refused}
+use Rattle.replay.specs.Said.{stepSaid, CannotStep, CallsNothing, start-refused, host-leaves}
 use Rattle.replay.specs.StepWords as replay
 use Rattle.replay.specs.declared.ReplayState.{ReplayState}
 use Rattle.replay_block.specs.Block.{begun, blockReplayed}
@@ -147,15 +148,17 @@ pub record RefusalsChangeNothing : Type 0 where
   pub step-replay : (trace : List ℕ) (at : ℕ) (s : ReplayState) (m : List ℕ)
       → let o = stepped trace at s m in
       Refuses {S = ReplayState × List ℕ} (stepSaid (o .answer .answer)) (CannotStep trace at s m) (s, m) (o .answer .state, o .memory)
+  -- The host's call of a record has no answer: where it calls nothing, the state is as it was.
+  pub host-call : (r : TraceRecord) (s : ReplayState) → CallsNothing r s → LeftAlone s (hostCall r s)
   -- A session of blocks: what comes back from a beginning that is refused is refused by every block with 16.
   pub begin-blocks : (address : List ℕ)
       → let b = begun address in
       (IsRefusal (hostSaid (b .answer)) ↔ (Good address → ⊥)) × (IsRefusal (hostSaid (b .answer)) → replay.InRanges (b .session .state) → ⊥)
-  -- A block of a trace: the records before a refused one are played, and that one does nothing (`block-right`).
+  -- A block of a trace: the records before a refused one are played, and that one does nothing (`blocks-replayed`).
   pub play-block : (kept read : ℕ) (s : Session) (buffer text : List ℕ)
       → let o = blockReplayed kept read s buffer text in
       Refuses {S = Session × List ℕ × List ℕ} (blockPlayedSaid (o .answer .answer)) (CannotPlay kept read s buffer text) (s, buffer, text) (o .answer .session, o .buffer, o .text)
-  -- What the replay program says on standard error.
+  -- What the replay program says beside its listing.
   pub write-message : (message : Message) (m : List ℕ)
       → let o = texts.writing (texts.messageText message) m in
       Refuses (said.writtenSaid (o .answer)) (length m < length (texts.messageText message)) m (o .memory)
@@ -191,6 +194,7 @@ demand-1 =
       put-frames = put-refuses;
       start-replay = start-refused;
       step-replay = replayed.step-refuses;
+      host-call = host-leaves;
       begin-blocks = begin-refused;
       play-block = play-refuses;
       write-message = λ message. said.writing-refuses (texts.messageText message);

@@ -92,6 +92,11 @@ pub data ByHand : ReplayState → List TraceRecord → List HandTurn → Type 0 
       c ≡ settledBy (s .meter) (s .energies .forward) (s .energies .reverse) → ByHand (turned s (counted c)) rs turns →
       ByHand s (Settle ∷ rs) (counted c ∷ turns)
 
+-- Some calls by hand of these records.
+pub record SomeHand (s : ReplayState) (rs : List TraceRecord) : Type 0 where
+  pub turns : List HandTurn
+  pub by-hand : ByHand s rs turns
+
 -- Before the first record: a fresh receiver, and what `Meter::fresh` hands back of an address.
 abbrev pub handStart : List ℕ → ReplayState
 handStart address = stateOf fresh (created address .meter) (created address .energies)

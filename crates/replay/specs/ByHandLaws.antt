@@ -31,7 +31,7 @@ use Rattle.replay_frames.specs.PuttingLaws.{put-sized}
 use Rattle.replay_frames.specs.PutLent.{put-lent}
 use Rattle.trace.specs.declared.TraceRecord.{TraceRecord}
 use Rattle.trace.specs.declared.TraceRecord.the-variants.{Byte, Silence, Pulse, Key, Settle}
-use Rattle.replay.specs.Replay.{Play, stateOf, countedIn, heardPlay, hostCall, played}
+use Rattle.replay.specs.Replay.{Play, stateOf, countedIn, heardPlay, hostCall, played, playedAll}
 use Rattle.replay.specs.ByHand.{
   AnswerCall,
   AnswerCalls,
@@ -45,6 +45,7 @@ use Rattle.replay.specs.ByHand.{
   keyed,
   turned,
   ByHand,
+  SomeHand,
   done,
   byte,
   silence,
@@ -58,7 +59,7 @@ use Rattle.replay.specs.ByHand.{
   repliesGiven,
   spelledBy,
 }
-use Rattle.replay.specs.StateLaws.{Fit, heard-call, played-fit, playedAll}
+use Rattle.replay.specs.StateLaws.{Fit, heard-call, played-fit}
 use Rattle.replay.specs.declared.ReplayState.{ReplayState}
 
 -- What a receiver with one symbol more reads are frames.
@@ -213,11 +214,7 @@ made-hears {s = s} f x =
       answers = made-calls _ _ _ _;
     }
 
--- There always are such calls.
-pub record SomeHand (s : ReplayState) (rs : List TraceRecord) : Type 0 where
-  pub turns : List HandTurn
-  pub by-hand : ByHand s rs turns
-
+-- There always are calls by hand.
 pub some-hand : {line : List Symbol} {s : ReplayState} (rs : List TraceRecord) → Fit line s → SomeHand s rs
 some-hand [] f = record { turns = []; by-hand = done }
 some-hand (Byte b ∷ rs) f =

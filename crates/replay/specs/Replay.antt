@@ -1,6 +1,6 @@
 -- Document 02, W1: a trace played record by record into a fresh receiver and a fresh meter.
 use Prim.Native.Nat.{ℕ, _+_}
-use mathlib.Core.List.{List, []}
+use mathlib.Core.List.{List, [], _∷_, _++_}
 use mathlib.Core.Bool.{Bool, _&&_}
 use lib.ListN.{length, drop}
 use lib.Dec.{leb}
@@ -88,6 +88,14 @@ played records.Silence s = heardPlay silence s
 played (records.Pulse direction rate amount) s = hostPlay (hostCall (records.Pulse direction rate amount) s)
 played (records.Key on) s = hostPlay (hostCall (records.Key on) s)
 played records.Settle s = hostPlay (hostCall records.Settle s)
+
+-- Records played one after the other.
+unfoldable pub playedAll : List TraceRecord → ReplayState → Play
+playedAll [] s = hostPlay s
+playedAll (r ∷ rs) s =
+    let p = played r s in
+    let q = playedAll rs (p .state) in
+    record { state = q .state; frames = p .frames ++ q .frames; replies = p .replies ++ q .replies }
 
 -- A state with a step's answer.
 abbrev pub steppedWith : ReplayState → StepAnswer → Stepped

@@ -21,10 +21,10 @@ use Rattle.trace.specs.Trace.{frontOf}
 use Rattle.trace.specs.declared.Front.the-variants.{Good as GoodRecord}
 use Rattle.trace.specs.declared.TraceRecord.{TraceRecord}
 use Rattle.trace.specs.TraceLaws.{good-bytes, good-within, written-append}
-use Rattle.replay.specs.Replay.{started, stepped, played, steppedWith, Unplayed}
-use Rattle.replay.specs.ByHand.{HandTurn, ByHand, handStart, stateLeft, framesPutIn, repliesGiven, spelled}
-use Rattle.replay.specs.StateLaws.{Fit, fit-within, start-fit, playedAll, all-fit, all-frames, all-then, all-one}
-use Rattle.replay.specs.ByHandLaws.{SomeHand, some-hand, hand-same}
+use Rattle.replay.specs.Replay.{started, stepped, played, steppedWith, Unplayed, playedAll}
+use Rattle.replay.specs.ByHand.{HandTurn, ByHand, handStart, stateLeft, framesPutIn, repliesGiven, spelled, SomeHand}
+use Rattle.replay.specs.StateLaws.{Fit, fit-within, start-fit, all-fit, all-frames, all-then, all-one}
+use Rattle.replay.specs.ByHandLaws.{some-hand, hand-same}
 use Rattle.replay.specs.StepLaws.{Stepping, outside, ends, declines, bad, plays, stepping}
 use Rattle.replay.specs.StepWords.{InRanges, within-iff, StepWords, step-words}
 use Rattle.replay.specs.declared.ReplayState.{ReplayState}

@@ -1,7 +1,8 @@
--- What the papers say of the answers of the replay, when it refuses, and that state and memory are then as they were.
+-- What the papers say of the answers of the replay, when it refuses, and that state and memory are then as they were; and where the host's call of a
+-- record calls nothing.
 use Prim.Native.Nat.{ℕ, _<_}
 use native.Mathlib.Omega.{arith}
-use mathlib.Core.Path.{_≡_, refl, sym, _∙_}
+use mathlib.Core.Path.{_≡_, refl, sym, ap, _∙_}
 use mathlib.Core.Bool.{false≢true}
 use mathlib.Core.Logic.{_↔_, _⊎_, inl, inr}
 use mathlib.Core.List.{List, [], _∷_}
@@ -9,12 +10,16 @@ use native.Mathlib.Decide.{decLt}
 use lib.ListN.{length, drop}
 use Rattle.laws.specs.Said.{Said, values, refusal, refusalAt, IsRefusal, Refuses, refuses, answers}
 use Rattle.item_address.specs.Address.{Good}
-use Rattle.meter.specs.Said.{fresh-refused}
-use Rattle.meter_counting.specs.Said.{hostSaid}
+use Rattle.meter.specs.Ranges as meter
+use Rattle.meter.specs.Said.{Whole, fresh-refused, key-refuses, pulse-refuses, settle-refuses}
+use Rattle.meter.specs.declared.Meter.{Meter}
+use Rattle.meter_counting.specs.Said.{hostSaid, Countable}
 use Rattle.trace.specs.Trace.{frontOf}
 use Rattle.trace.specs.Said.{NoGoodRecord, front-refuses}
+use Rattle.trace.specs.declared.TraceRecord.{TraceRecord}
+use Rattle.trace.specs.declared.TraceRecord.the-variants.{Byte, Silence, Pulse, Key, Settle}
 use Rattle.trace.specs.declared.Front.the-variants as front
-use Rattle.replay.specs.Replay.{started, stepped, steppedWith}
+use Rattle.replay.specs.Replay.{stateOf, started, hostCall, stepped, steppedWith}
 use Rattle.replay.specs.StepLaws.{Stepping, outside, ends, declines, bad, plays, stepping, bad-no-end}
 use Rattle.replay.specs.StepWords.{InRanges, within-iff, ended-iff}
 use Rattle.replay.specs.declared.ReplayState.{ReplayState}
@@ -72,3 +77,31 @@ step-refuses trace at s m = go (stepping refl)
         none (inl out) = out (within-iff s .0 w)
         none (inr (early, inl short)) = omega arith
         none (inr (early, inr no-good)) = rw e at (front-refuses (drop at trace) .exactly .1 no-good)
+
+-- The meter and its readings are within their ranges.
+abbrev MeterWithin : ReplayState → Type 0
+MeterWithin s = meter.InRanges (s .meter) (s .energies .forward) (s .energies .reverse)
+
+-- The host's call of a record calls nothing: a byte and a silence are no call, and a call is refused where the meter or its readings are out of their
+-- ranges, a pulse also by its direction or its rate.
+abbrev pub CallsNothing : TraceRecord → ReplayState → Type 0
+CallsNothing (Byte b) s = Unit
+CallsNothing Silence s = Unit
+CallsNothing (Pulse direction rate amount) s = MeterWithin s × Countable direction rate → ⊥
+CallsNothing (Key on) s = MeterWithin s → ⊥
+CallsNothing Settle s = MeterWithin s → ⊥
+
+-- There the state is as it was.
+pub host-leaves : (r : TraceRecord) (s : ReplayState) → CallsNothing r s → hostCall r s ≡ s
+unfolding hostCall
+host-leaves (Byte b) s none = refl
+host-leaves Silence s none = refl
+host-leaves (Pulse direction rate amount) s none =
+    let c = pulse-refuses amount direction rate (s .meter) (s .energies .forward) (s .energies .reverse) in
+    ap (λ (w : Whole). stateOf (s .receiver) (w .0) (w .1)) (c .as-before (c .exactly .1 none))
+host-leaves (Key on) s none =
+    let c = key-refuses on (s .meter) (s .energies .forward) (s .energies .reverse) in
+    ap (λ (m : Meter). stateOf (s .receiver) m (s .energies)) (c .as-before (c .exactly .1 none))
+host-leaves Settle s none =
+    let c = settle-refuses (s .meter) (s .energies .forward) (s .energies .reverse) in
+    ap (λ (w : Whole). stateOf (s .receiver) (w .0) (w .1)) (c .as-before (c .exactly .1 none))

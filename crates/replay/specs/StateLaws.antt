@@ -27,7 +27,7 @@ use Rattle.meter.specs.Calls.{keeps-within, fresh-within}
 use Rattle.replay_frames.specs.PuttingLaws.{after-sized, after-within}
 use Rattle.trace.specs.declared.TraceRecord.{TraceRecord}
 use Rattle.trace.specs.declared.TraceRecord.the-variants.{Byte, Silence, Pulse, Key, Settle}
-use Rattle.replay.specs.Replay.{Play, started, isWithin, heardPlay, hostCall, hostPlay, played}
+use Rattle.replay.specs.Replay.{started, isWithin, heardPlay, hostCall, played, playedAll}
 use Rattle.replay.specs.ByHand.{spelledBy, spelled}
 use Rattle.replay.specs.declared.ReplayState.{ReplayState}
 
@@ -130,14 +130,7 @@ module _ {line : List Symbol} {s : ReplayState} (f : Fit line s) where
   played-frames (Key on) = rw (append-nil line, append-nil)
   played-frames Settle = rw (append-nil line, append-nil)
 
--- Records played one after the other.
-unfoldable pub playedAll : List TraceRecord → ReplayState → Play
-playedAll [] s = hostPlay s
-playedAll (r ∷ rs) s =
-    let p = played r s in
-    let q = playedAll rs (p .state) in
-    record { state = q .state; frames = p .frames ++ q .frames; replies = p .replies ++ q .replies }
-
+-- Records played one after the other keep the state fit, and put to the meter the frames that the line with them reads as more.
 pub all-fit : {line : List Symbol} {s : ReplayState} (rs : List TraceRecord) → Fit line s → Fit (line ++ spelled rs) (playedAll rs s .state)
 unfolding playedAll
 all-fit [] f = rw append-nil f

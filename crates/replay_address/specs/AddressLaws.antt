@@ -1,6 +1,6 @@
 -- The address of twelve digits in words: exactly twelve digits are an address, and its bytes are packed decimal of the number that they spell.
 use Prim.Native.Nat.{ℕ, suc, _+_, _*_, _/_, _%_, _≤_, _<_}
-use mathlib.Core.Path.{_≡_, refl, sym, _∙_}
+use mathlib.Core.Path.{_≡_, refl, sym, ap, _∙_}
 use mathlib.Core.List.{List, [], _∷_}
 use mathlib.Core.Bool.{true, false≢true, and-eq-true-iff}
 use mathlib.Core.Logic.{_↔_}
@@ -12,7 +12,9 @@ use borrow.Author.Tests.{eqb-true, eq-eqb}
 use Rattle.laws.specs.All.{allOf, AllOf}
 use Rattle.laws.specs.AllLaws.{all-drop, all-iff}
 use Rattle.laws.specs.TestLaws.{pick-cases}
-use Rattle.item_decimal.specs.Decimal.{Decimal, digits, unpacked}
+use Rattle.item_address.specs.Address.{Good}
+use Rattle.item_decimal.specs.Decimal.{Decimal, digits, lowDigits, unpacked, packed}
+use Rattle.item_decimal.specs.DecimalLaws.{packed-unpacked}
 use Rattle.replay_address.specs.Digits.{isDigit, worth, spelled, spelledFrom, IsDigit, digit-iff}
 use Rattle.replay_address.specs.declared.ReadAddress.{ReadAddress}
 use Rattle.replay_address.specs.Address.{pairOf, pairAt, addressBytes, isAddress, addressRead}
@@ -107,10 +109,23 @@ address-spells text h =
           (omega (arith, lowest .number, first .number, second .number, third .number, fourth .number, fifth .number));
     }
 
--- What is read is an address exactly where the text is twelve digits, and then it is the address that they spell.
+-- An address that digits spell is good exactly where their number is not twelve nines.
+spells-good : {text address : List ℕ} → Spells text address → Good address ↔ (spelled text ≡ 999999999999 → ⊥)
+unfolding unpacked digits packed lowDigits
+spells-good {text} {address} s = (
+  λ good nines.
+      good .no-broadcast
+      (sym (packed-unpacked address (s .packed)) ∙ ap (λ (k : ℕ). packed k (unpacked address)) (s .six) ∙ ap (packed 6) (s .number ∙ nines)),
+  λ other. record { decimal = s .packed; no-broadcast = λ same. other (sym (s .number) ∙ ap unpacked same) },
+)
+
+-- What is read is an address exactly where the text is twelve digits, and then it is the address that they spell, good but for twelve
+-- nines; else it is six zeros.
 pub record AddressReads (text : List ℕ) (read : ReadAddress) : Type 0 where
   pub exactly : (read .found ≡ true) ↔ TwelveDigits text
   pub spells : read .found ≡ true → Spells text (read .address)
+  pub good : read .found ≡ true → (Good (read .address) ↔ (spelled text ≡ 999999999999 → ⊥))
+  pub zeros : (TwelveDigits text → ⊥) → read .address ≡ 0 ∷ 0 ∷ 0 ∷ 0 ∷ 0 ∷ 0 ∷ []
 
 pub address-reads : (text : List ℕ) → AddressReads text (addressRead text)
 unfolding addressRead
@@ -118,8 +133,16 @@ address-reads text =
     pick-cases (AddressReads text) (isAddress text)
     (λ yes.
     let digits = address-iff text .0 yes in
-    record { exactly = (λ found. digits, λ all. refl); spells = λ found. address-spells text digits })
+    let spelling = address-spells text digits in
+    record {
+      exactly = (λ found. digits, λ all. refl);
+      spells = λ found. spelling;
+      good = λ found. spells-good spelling;
+      zeros = λ none. absurd (none digits);
+    })
     (λ no. record {
       exactly = (λ found. absurd (false≢true found), λ all. absurd (false≢true (sym no ∙ address-iff text .1 all)));
       spells = λ found. absurd (false≢true found);
+      good = λ found. absurd (false≢true found);
+      zeros = λ none. refl;
     })

@@ -1,5 +1,6 @@
 -- A trace replayed in blocks: what a block comes to.
 use Prim.Native.Nat.{ℕ, zero, suc, _+_, _-_, _*_, _%_, _^_}
+use mathlib.Core.Path.{_≡_}
 use mathlib.Core.List.{List, [], _∷_}
 use mathlib.Core.Bool.{Bool, true, false}
 use lib.ListN.{length, take}
@@ -12,8 +13,7 @@ use Rattle.trace.specs.Trace.{frontOf}
 use Rattle.trace.specs.declared.TraceRecord.{TraceRecord}
 use Rattle.trace.specs.declared.Front.{Front}
 use Rattle.trace.specs.declared.Front.the-variants as front
-use Rattle.replay.specs.Replay.{Play, isWithin, started}
-use Rattle.replay.specs.StateLaws.{playedAll}
+use Rattle.replay.specs.Replay.{Play, isWithin, started, playedAll}
 use Rattle.replay.specs.declared.ReplayState.{ReplayState}
 use Rattle.replay_block.specs.declared.Session.{Session}
 use Rattle.replay_block.specs.declared.Begun.{Begun}
@@ -57,6 +57,10 @@ restFrom zero (b ∷ block) = restBy (frontOf (b ∷ block)) (b ∷ block) (λ n
 
 abbrev pub restIn : List ℕ → List ℕ
 restIn block = restFrom 0 block
+
+-- No good record stands at the front.
+abbrev pub Stops : List ℕ → Type 0
+Stops rest = (r : TraceRecord) (n : ℕ) → frontOf rest ≡ front.Good r n → ⊥
 
 -- A number that counts on, modulo 2^64.
 unfoldable pub counted : ℕ → ℕ → ℕ

@@ -19,11 +19,10 @@ use Rattle.trace.specs.FrontCases.{CutOff, cut-byte, cut-pulse, cut-key, FrontC
 use Rattle.trace.specs.declared.TraceRecord.{TraceRecord}
 use Rattle.trace.specs.declared.Front.{Front}
 use Rattle.trace.specs.declared.Front.the-variants as front
-use Rattle.replay.specs.Replay.{isWithin}
-use Rattle.replay.specs.StateLaws.{playedAll}
+use Rattle.replay.specs.Replay.{isWithin, playedAll}
 use Rattle.replay.specs.PlayLaws.{both-within}
-use Rattle.replay_block.specs.Block.{restIn, wentOn, isStop, refusalOf, BlockOutcome, blockOutcome, linesIn, afterBlock, blockPlayed, blockReplayed}
-use Rattle.replay_block.specs.ReadingLaws.{Stops, reads-all, rest-stops, one-reading}
+use Rattle.replay_block.specs.Block.{restIn, wentOn, isStop, refusalOf, BlockOutcome, blockOutcome, linesIn, afterBlock, blockPlayed, blockReplayed, Stops}
+use Rattle.replay_block.specs.ReadingLaws.{reads-all, rest-stops, one-reading}
 use Rattle.replay_block.specs.Run.{runAt, NumbersFit, Ready, PlaysAll}
 use Rattle.replay_block.specs.declared.Session.{Session}
 use Rattle.replay_block.specs.declared.BlockAnswer.the-variants.{Refused, Played, Stopped}

@@ -1,4 +1,4 @@
--- A call over a block in words: where it is refused and with which number, where it stops, and what it leaves.
+-- A call over a block in words: where it is refused and with which number, which records it has read, where it stops, and what it leaves.
 use Prim.Native.Nat.{ℕ, _+_, _*_, _≤_, _<_}
 use native.Mathlib.Omega.{arith}
 use native.Mathlib.Decide.{decLt}
@@ -15,7 +15,9 @@ use Rattle.laws.specs.Said.{Said, values, refusal, IsRefusal, Refuses, refuses,
 use Rattle.laws.specs.Test.{pick}
 use Rattle.laws.specs.TestLaws.{pick-cases}
 use Rattle.trace.specs.Trace.{frontOf}
+use Rattle.trace.specs.Records.{ReadsAs}
 use Rattle.trace.specs.FrontCases.{FrontCase, ended, no-kind, cut-off, bad-field, case-front, front-case}
+use Rattle.trace.specs.declared.TraceRecord.{TraceRecord}
 use Rattle.trace.specs.declared.Front.{Front}
 use Rattle.trace.specs.declared.Front.the-variants as front
 use Rattle.item_address.specs.Address.{Good}
@@ -27,8 +29,8 @@ use Rattle.replay.specs.Said.{start-refused}
 use Rattle.replay.specs.StartWords.{start-words}
 use Rattle.replay.specs.StepWords.{InRanges, within-iff}
 use Rattle.replay_block.specs.declared.Begun.{Begun}
-use Rattle.replay_block.specs.Block.{begun, restIn, isStop, refusalOf, linesIn, BlockOutcome, blockOutcome, blockPlayed, blockReplayed}
-use Rattle.replay_block.specs.ReadingLaws.{Stops, rest-stops}
+use Rattle.replay_block.specs.Block.{begun, recordsIn, restIn, isStop, refusalOf, linesIn, BlockOutcome, blockOutcome, blockPlayed, blockReplayed, Stops}
+use Rattle.replay_block.specs.ReadingLaws.{reads-all, rest-stops}
 use Rattle.replay_block.specs.BlockLaws.{rest-few}
 use Rattle.replay_block.specs.BlockCalls.{BlockCall, IsBlock, keptBy, Blocking, declines, stops, plays, blocking}
 use Rattle.replay_block.specs.declared.Session.{Session}
@@ -166,6 +168,12 @@ pub record BlockIsRight (rest : List ℕ) (c : BlockCall) : Type 0 where
       (kept ≡ length rest) × (kept ≤ 6) × (drop kept (c .leftBuffer) ≡ drop kept (c .buffer))
       × (text ≤ length (c .left)) × (drop text (c .left) ≡ drop text (c .lent))
 
+-- What a call has read of the bytes kept and read, where it leaves this rest: good records, one by one from the left, as far as there are any.
+pub record HasRead (rest : List ℕ) (c : BlockCall) : Type 0 where
+  pub records : List TraceRecord
+  pub reads : ReadsAs (take (c .kept + c .read) (c .buffer)) records rest
+  pub no-more : Stops rest
+
 -- What holds of a call in a session within its ranges, behind these bytes kept.
 pub record CallIsRight (before : List ℕ) (s : Session) (c : BlockCall) : Type 0 where
   -- it is never refused with 16; with 1 exactly where the buffer or the text memory is too short, and with no other number
@@ -174,7 +182,8 @@ pub record CallIsRight (before : List ℕ) (s : Session) (c : BlockCall) : Type 
   pub others : (n : ℕ) → c .returned .answer ≡ Refused n → n ≡ 1
   -- refused, it has changed nothing
   pub refused : (n : ℕ) → c .returned .answer ≡ Refused n → (c .returned .session ≡ s) × (c .leftBuffer ≡ c .buffer) × (c .left ≡ c .lent)
-  -- else it stops or is played, by what is left
+  -- else it has read every good record up to what is left, and stops or is played by that
+  pub has-read : Unrefused (c .returned .answer) → HasRead (keptBy (c .returned .answer) before c) c
   pub right : BlockIsRight (keptBy (c .returned .answer) before c) c
 
 -- Where it stops, and where it does not.
@@ -312,6 +321,28 @@ block-right before s c h = go (blocking h)
         (refl, rest-few (restIn block) (eqb (c .read) 0) (rest-stops block) on, rw b (drop-append-seam (restIn block) _))
         (rw l (lines-within (linesIn block s) (c .lent))) (rw l (drop-append-seam (linesIn block s) _)))
 
+-- The records that a call has read.
+block-read : (before : List ℕ) (s : Session) (c : BlockCall) → IsBlock s c → Unrefused (c .returned .answer) →
+    HasRead (keptBy (c .returned .answer) before c) c
+block-read before s c h unrefused = go (blocking h)
+  where
+    all : {block : List ℕ} → block ≡ take (c .kept + c .read) (c .buffer) → HasRead (restIn block) c
+    all {block} is =
+        record {
+          records = recordsIn block;
+          reads = subst (λ (l : List ℕ). ReadsAs l (recordsIn block) (restIn block)) is (reads-all block);
+          no-more = rest-stops block;
+        }
+
+    go : Blocking (c .kept) (c .read) s (c .buffer) (c .lent) (c .returned) (c .leftBuffer) (c .left) → HasRead (keptBy (c .returned .answer) before c) c
+    go (declines n out a b l) = absurd (subst Unrefused (ap (λ (r : BlockPlayed). r .answer) a) unrefused)
+    go (stops {block} is stop a b l) =
+        let rest : keptBy (c .returned .answer) before c ≡ restIn block = rw a (ap restIn (sym is)) in
+        subst (λ (x : List ℕ). HasRead x c) (sym rest) (all is)
+    go (plays {block} is on a b l) =
+        let rest : keptBy (c .returned .answer) before c ≡ restIn block = rw (a, b) (take-append-seam (restIn block) _) in
+        subst (λ (x : List ℕ). HasRead x c) (sym rest) (all is)
+
 -- What a call that stopped left, and one that was played at the end of the trace.
 pub stops-at : {rest : List ℕ} {c : BlockCall} {n text : ℕ} → BlockIsRight rest c → c .returned .answer ≡ Stopped n text → frontOf rest ≡ front.Refused n
 stops-at {rest} {c} {n} {text} right e = by (right .others n text e)
@@ -335,6 +366,7 @@ call-right before s c within h =
       one = (λ e. words .one .0 e .1, λ short. words .one .1 (ranges, short));
       others = λ n e. number n e (words .others n e);
       refused = λ n e. unchanged (blocking h) e;
+      has-read = block-read before s c h;
       right = block-right before s c h;
     }
   where

@@ -15,12 +15,12 @@ use Rattle.listing.specs.LinesLaws.{lines-append}
 use Rattle.trace.specs.Records.{FieldsRight, written, ReadsAs, none}
 use Rattle.trace.specs.TraceLaws.{reads-bytes, reads-written, reads-more, reads-then, written-append}
 use Rattle.trace.specs.declared.TraceRecord.{TraceRecord}
-use Rattle.replay.specs.Replay.{Play, started}
-use Rattle.replay.specs.StateLaws.{Fit, fit-within, start-fit, playedAll, all-fit, all-then}
+use Rattle.replay.specs.Replay.{Play, started, playedAll}
+use Rattle.replay.specs.StateLaws.{Fit, fit-within, start-fit, all-fit, all-then}
 use Rattle.replay.specs.Replayed.{PlayedByHand, played-by-hand}
 use Rattle.replay.specs.ByHand.{HandTurn, ByHand, handStart, framesPutIn, repliesGiven}
 use Rattle.replay.specs.ByHandLaws.{hand-same}
-use Rattle.replay_block.specs.Block.{begun, recordsIn, restFrom, restIn, counted, wentBy, linesIn, afterBlock}
+use Rattle.replay_block.specs.Block.{begun, recordsIn, restFrom, restIn, counted, wentBy, linesIn, afterBlock, Stops}
 use Rattle.replay_block.specs.BlockCalls.{
   BlockCall,
   IsBlock,
@@ -41,7 +41,7 @@ use Rattle.replay_block.specs.BlockCalls.{
   blocking,
 }
 use Rattle.replay_block.specs.BlockWords.{CallIsRight, call-right}
-use Rattle.replay_block.specs.ReadingLaws.{Stops, reads-all, rest-stops}
+use Rattle.replay_block.specs.ReadingLaws.{reads-all, rest-stops}
 use Rattle.replay_block.specs.Run.{NumbersFit}
 use Rattle.replay_block.specs.declared.Session.{Session}
 use Rattle.replay_block.specs.declared.BlockAnswer.{BlockAnswer}

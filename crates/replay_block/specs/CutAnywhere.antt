@@ -17,8 +17,8 @@ use Rattle.replay.specs.ByHand.{ByHand, handStart}
 use Rattle.replay.specs.StepWords.{step-words}
 use Rattle.replay.specs.Replayed.{StepCall, Steps, placeAfter, stateAfter, textAfter, playsAfter, linesAfter, replayed-by-hand}
 use Rattle.replay.specs.declared.StepAnswer.the-variants.{Done, BadRecord}
-use Rattle.replay_block.specs.Block.{begun}
-use Rattle.replay_block.specs.ReadingLaws.{Stops, one-reading}
+use Rattle.replay_block.specs.Block.{begun, Stops}
+use Rattle.replay_block.specs.ReadingLaws.{one-reading}
 use Rattle.replay_block.specs.BlockCalls.{BlockCall, BlockCalls, OfBytes, traceOf, textOf, keptAfter, sessionAfter}
 use Rattle.replay_block.specs.BlockWords.{stops-at, ends-at}
 use Rattle.replay_block.specs.Blocks.{kept-last, brought-bytes, blocks-read, blocks-replayed}

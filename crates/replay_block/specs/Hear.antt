@@ -14,9 +14,8 @@ use Rattle.energy.specs.declared.Energies.{Energies}
 use Rattle.meter.specs.declared.Meter.{Meter}
 use Rattle.trace.specs.Records.{ReadsAs}
 use Rattle.trace.specs.declared.TraceRecord.{TraceRecord}
-use Rattle.replay.specs.Replay.{stateOf}
+use Rattle.replay.specs.Replay.{stateOf, playedAll}
 use Rattle.replay.specs.Play.{deliveredPlay}
-use Rattle.replay.specs.StateLaws.{playedAll}
 use Rattle.replay_block.specs.declared.hear.Heard.{Heard}
 
 -- A record of a kind, which has so many bytes, stands whole at a place of a block.

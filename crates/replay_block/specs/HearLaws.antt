@@ -37,9 +37,9 @@ use Rattle.trace.specs.FrontCases as case
 use Rattle.trace.specs.declared.TraceRecord.{TraceRecord}
 use Rattle.trace.specs.declared.TraceRecord.the-variants as records
 use Rattle.trace.specs.declared.Front.the-variants as front
-use Rattle.replay.specs.Replay.{Play, stateOf, heardPlay, hostPlay, hostCall, played}
+use Rattle.replay.specs.Replay.{Play, stateOf, heardPlay, hostPlay, hostCall, played, playedAll}
 use Rattle.replay.specs.PlayLaws.{call-says, call-keeps, call-size, call-cuts, delivers-most, heard-delivered}
-use Rattle.replay.specs.StateLaws.{playedAll, all-then, all-one}
+use Rattle.replay.specs.StateLaws.{all-then, all-one}
 use Rattle.replay.specs.declared.ReplayState.{ReplayState}
 use Rattle.replay_block.specs.Hear.{standsAt, NoneStands, isQuiet, CanHear, HeardOn}
 use Rattle.replay_block.specs.declared.hear.Heard.{Heard}

@@ -10,11 +10,7 @@ use Rattle.trace.specs.TraceLaws.{good-size, good-within}
 use Rattle.trace.specs.declared.TraceRecord.{TraceRecord}
 use Rattle.trace.specs.declared.Front.{Front}
 use Rattle.trace.specs.declared.Front.the-variants.{Ended, Refused, Good}
-use Rattle.replay_block.specs.Block.{recordsBy, recordsFrom, recordsIn, restBy, restFrom, restIn}
-
--- No good record stands at the front.
-abbrev pub Stops : List ℕ → Type 0
-Stops rest = (r : TraceRecord) (n : ℕ) → frontOf rest ≡ Good r n → ⊥
+use Rattle.replay_block.specs.Block.{recordsBy, recordsFrom, recordsIn, restBy, restFrom, restIn, Stops}
 
 -- The bytes behind the first, as many fewer.
 drop-behind : {r : TraceRecord} {n : ℕ} (b : ℕ) (block : List ℕ) → frontOf (b ∷ block) ≡ Good r n → drop n (b ∷ block) ≡ drop (n - 1) block

@@ -9,10 +9,8 @@ use Rattle.listing.specs.Lines.{linesOf}
 use Rattle.meter.specs.Meter.{MeterSized}
 use Rattle.trace.specs.Records.{ReadsAs}
 use Rattle.trace.specs.declared.TraceRecord.{TraceRecord}
-use Rattle.replay.specs.Replay.{isWithin}
-use Rattle.replay.specs.StateLaws.{playedAll}
-use Rattle.replay_block.specs.Block.{wentOn}
-use Rattle.replay_block.specs.ReadingLaws.{Stops}
+use Rattle.replay.specs.Replay.{isWithin, playedAll}
+use Rattle.replay_block.specs.Block.{wentOn, Stops}
 use Rattle.replay_block.specs.declared.Session.{Session}
 use Rattle.replay_block.specs.declared.run.Run.{Run}
 

@@ -32,11 +32,10 @@ use Rattle.meter.specs.Calls.{keeps-within}
 use Rattle.meter.specs.declared.KeySet.{KeySet}
 use Rattle.meter.specs.declared.Meter.{Meter}
 use Rattle.replay.specs.StepWords.{InRanges, within-iff}
-use Rattle.replay.specs.Replay.{Play, stateOf, isWithin, hostCall, played, hostPlay}
-use Rattle.replay.specs.StateLaws.{playedAll, all-then, all-one}
+use Rattle.replay.specs.Replay.{Play, stateOf, isWithin, hostCall, played, hostPlay, playedAll}
+use Rattle.replay.specs.StateLaws.{all-then, all-one}
 use Rattle.replay.specs.declared.ReplayState.{ReplayState}
-use Rattle.replay_block.specs.Block.{counted, wentBy, wentOn}
-use Rattle.replay_block.specs.ReadingLaws.{Stops}
+use Rattle.replay_block.specs.Block.{counted, wentBy, wentOn, Stops}
 use Rattle.frame.specs.EndToEnd.{cut}
 use Rattle.line.specs.RefusalWords as line
 use Rattle.replay_frames.specs.Putting.{repliesTo}

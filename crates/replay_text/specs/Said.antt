@@ -1,4 +1,4 @@
--- What the papers say of the answers of the texts, when they are refused, and that the memory is then as it was.
+-- When a text is refused, and that the memory is then as it was.
 use Prim.Native.Nat.{ℕ, _<_}
 use mathlib.Core.List.{List, [], _∷_}
 use native.Mathlib.Omega.{arith}

@@ -1,26 +1,30 @@
 -- What is said in words: each message is one line, and a reason one more before how the program is called; the numbers that stand in them are these,
--- in this order; and worked lines.
+-- in this order; what a writing answers and leaves; and worked lines.
 use Prim.Native.Nat.{ℕ, _+_, _*_, _<_}
 use mathlib.Core.Path.{_≡_, refl, ap, _∙_}
 use mathlib.Core.List.{List, [], _∷_, _++_, append-assoc}
 use mathlib.Core.Bool.{Bool, true, false, _&&_, not, false≢true}
 use native.Mathlib.Nat.{not-suc-le-zero}
 use native.Mathlib.Omega.{arith}
-use lib.ListN.{length, take}
-use lib.Dec.{eqb}
+use lib.ListN.{length, take, drop}
+use lib.Seq.{take-append-seam, drop-append-seam}
+use lib.Dec.{leb, eqb}
 use borrow.Author.Tests.{ne-eqb}
 use Rattle.laws.specs.All.{allOf, AllOf}
+use Rattle.laws.specs.Memory.{Outcome}
 use Rattle.laws.specs.Test.{pick}
 use Rattle.laws.specs.TestLaws.{pick-cases}
 use Rattle.frame.specs.Refusals.{badRecord, cutOff}
 use Rattle.replay_address.specs.Digits.{isDigit, worth, spelled, spelledFrom, IsDigit, digit-iff}
 use Rattle.replay_text.specs.Decimal.{decimal, decimalWithin}
 use Rattle.replay_text.specs.DecimalLaws.{decimal-digits, decimal-spelled}
-use Rattle.replay_text.specs.Texts.{quoted, labelled, meaning, refusedText, countsText, usage, reasonText, usageText, messageText}
+use Rattle.replay_text.specs.Texts.{quoted, labelled, writing, meaning, refusedText, countsText, usage, reasonText, usageText, messageText}
 use Rattle.replay_text.specs.declared.Message.{Message}
 use Rattle.replay_text.specs.declared.Message.the-variants.{BadRecord, Replayed, Usage}
 use Rattle.replay_text.specs.declared.Reason.{Reason}
 use Rattle.replay_text.specs.declared.Reason.the-variants.{Asked, NotOneArgument, BadAddress}
+use Rattle.replay_text.specs.declared.Written.{Written}
+use Rattle.replay_text.specs.declared.Written.the-variants.{Length, TooLittleMemory}
 
 -- Where a reading of a text stands: outside of every number, or behind digits that spell a number.
 data Reading : Type 0 where
@@ -204,7 +208,7 @@ pub record SaysHow (reason : Reason) (text : List ℕ) : Type 0 where
   pub both : text ≡ why ++ how
   pub is-reason : IsReason reason why
   pub line : Line how []
-  pub begins : take 27 how ≡ quoted "usage: replay_trace ADDRESS"
+  pub exact : how ≡ quoted "usage: replay_trace ADDRESS < TRACE   plays a trace to a fresh meter of this address, twelve digits, and lists its replies\n"
 
 -- What a message says: of a refused record the refusal's number and the place; at the end the records, the frames and the replies; else how the program is
 -- called.
@@ -225,7 +229,7 @@ message-says (Usage reason) =
       both = refl;
       is-reason = is reason;
       line = plain-line (quoted "usage: replay_trace ADDRESS < TRACE   plays a trace to a fresh meter of this address, twelve digits, and lists its replies") refl;
-      begins = refl;
+      exact = refl;
     }
   where
     is : (reason : Reason) → IsReason reason (reasonText reason)
@@ -233,7 +237,28 @@ message-says (Usage reason) =
     is NotOneArgument = plain-line (quoted "replay_trace: one argument is needed, the address of the meter") refl
     is BadAddress = plain-line (quoted "replay_trace: the address has to be twelve digits, and not twelve nines") refl
 
--- A record of an unknown kind at the beginning; a trace that ends inside a record; the end of a replay.
+-- What a writing of a message answers and leaves: as many bytes as it says are the message, and what is beyond them is as it was; where the memory is too
+-- short, all of it is as it was.
+pub record WrittenWords (message : Message) (m : List ℕ) (answer : Written) (left : List ℕ) : Type 0 where
+  pub written : (n : ℕ) → answer ≡ Length n → Says message (take n left) × (drop n left ≡ drop n m)
+  pub unwritten : answer ≡ TooLittleMemory → left ≡ m
+
+pub written-words : (message : Message) (m : List ℕ) → let o = writing (messageText message) m in WrittenWords message m (o .answer) (o .memory)
+unfolding writing
+written-words message m =
+    pick-cases P (leb (length (messageText message)) (length m))
+    (λ room. record {
+      written = λ n e.
+          let same : n ≡ length (messageText message) = cc in
+          rw (same, take-append-seam (messageText message) _, drop-append-seam (messageText message) _) (message-says message, refl);
+      unwritten = λ e. let z : _≡_ {A = ℕ} 0 1 = cc in absurd (omega arith);
+    })
+    (λ short. record { written = λ n e. let z : _≡_ {A = ℕ} 0 1 = cc in absurd (omega arith); unwritten = λ e. refl })
+  where
+    P : Outcome Written → Type 0
+    P o = WrittenWords message m (o .answer) (o .memory)
+
+-- A record of an unknown kind at the beginning; a trace that ends inside a record; a number without a meaning here; the end of a replay.
 first-refused : refusedText 9 0 ≡ quoted "replay_trace: refused with 9 at place 0: an unknown kind of record, or a field out of its range\n"
 unfolding refusedText labelled meaning decimal decimalWithin
 first-refused = refl
@@ -241,6 +266,10 @@ first-refused = refl
 cut-off : refusedText 10 81920 ≡ quoted "replay_trace: refused with 10 at place 81920: the trace ends inside the record\n"
 unfolding refusedText labelled meaning decimal decimalWithin
 cut-off = refl
+
+out-of-ranges : refusedText 16 0 ≡ quoted "replay_trace: refused with 16 at place 0\n"
+unfolding refusedText labelled meaning decimal decimalWithin
+out-of-ranges = refl
 
 three-counts : countsText 110 7 0 ≡ quoted "replay_trace: records 110, frames put to the meter 7, replies 0\n"
 unfolding countsText labelled decimal decimalWithin

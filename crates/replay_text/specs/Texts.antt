@@ -1,4 +1,4 @@
--- What the replay program writes on standard error, and how it says how to call it.
+-- What the replay program says beside its listing: a refused record, the counts at the end, and how it is called.
 use Prim.Native.Nat.{ℕ}
 use Prim.Native.Char.{code}
 use Prim.Native.String.{String, [] as []ˢ, _∷_ as _∷ˢ_}

@@ -1,4 +1,4 @@
-// What the replay program of document 02, W1, says on standard error, and how it says how it is called.
+// What the replay program of document 02, W1, says beside its listing: how a trace ended, and how the program is called.
 mod put;
 
 use frame::refusal::BAD_RECORD;

@@ -49,8 +49,8 @@ good-local rest other {r} {n} good same =
     rw (sym split) (case-front (decided (front-case good) .alone (drop n other)))
 
 -- A good record stays one where the trace goes on.
-pub cut-grows : (rest more : List ℕ) {r : TraceRecord} {n : ℕ} → frontOf rest ≡ Good r n → frontOf (rest ++ more) ≡ Good r n
-cut-grows rest more {r} {n} good = good-local rest (rest ++ more) good (take-append-le n rest more (good-within rest good))
+pub good-stays : (rest more : List ℕ) {r : TraceRecord} {n : ℕ} → frontOf rest ≡ Good r n → frontOf (rest ++ more) ≡ Good r n
+good-stays rest more {r} {n} good = good-local rest (rest ++ more) good (take-append-le n rest more (good-within rest good))
 
 -- A refusal 9 is decided by what is there: it stays one where the trace goes on.
 pub bad-stays : (rest more : List ℕ) → frontOf rest ≡ Refused 9 → frontOf (rest ++ more) ≡ Refused 9
@@ -136,7 +136,7 @@ reads-more none more = none
 reads-more (next {trace} {rest} {r} {rs} {n} good behind) more =
     let behind-more : ReadsAs (drop n (trace ++ more)) rs (rest ++ more) =
     rw (drop-append-le n trace more (good-within trace good)) (reads-more behind more) in
-    next (cut-grows trace more good) behind-more
+    next (good-stays trace more good) behind-more
 
 -- Reading goes on from the rest.
 pub reads-then : {a b c : List ℕ} {rs ss : List TraceRecord} → ReadsAs a rs b → ReadsAs b ss c → ReadsAs a (rs ++ ss) c
