@@ -211,7 +211,7 @@ pub record ReplaysInBlocks (address : List ℕ) (calls : List BlockCall) : Type 
       sessionAfter (begun address .session) calls .frames ≡ length (framesPutIn turns) % 18446744073709551616
   pub replies : (turns : List HandTurn) → ByHand (handStart address) records turns →
       sessionAfter (begun address .session) calls .replies ≡ length (repliesGiven turns) % 18446744073709551616
-  -- each call: where it is refused, stops or is played, and what it leaves
+  -- each call: where it is refused, which records it has read, where it stops or is played, and what it leaves
   pub each : (earlier : List BlockCall) (c : BlockCall) (later : List BlockCall) → calls ≡ earlier ++ (c ∷ later) →
       CallIsRight (keptAfter [] earlier) (sessionAfter (begun address .session) earlier) c
 
