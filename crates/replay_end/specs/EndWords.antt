@@ -1,5 +1,5 @@
 -- What is said at the end of a replay in words: where the last block stopped, the number with which its record is refused, and how many bytes the
--- records before it have; where the trace has ended, how many records were played, frames put to the meter and replies given by hand.
+-- records before it have; the same of a block that is refused; where the trace has ended, how many records were played, frames put to the meter and replies given by hand.
 use Prim.Native.Nat.{ℕ, _%_}
 use native.Mathlib.Omega.{arith}
 use mathlib.Core.Path.{_≡_, refl, sym, ap, subst, _∙_}
@@ -39,6 +39,8 @@ lastText address calls c = messageText (lastMessage (c .returned .answer) (sessi
 pub record SaysTheEnd (address : List ℕ) (calls : List BlockCall) (c : BlockCall) : Type 1 where
   pub records : List TraceRecord
   pub up-to : traceOf calls ≡ written records ++ keptAfter [] calls
+  -- a block that is refused, with its number; one that stopped, with the number of the record that is left; and the end
+  pub refused : (n : ℕ) → c .returned .answer ≡ Refused n → Line (lastText address calls c) (n ∷ length (written records) % 18446744073709551616 ∷ [])
   pub stopped : (n text : ℕ) → c .returned .answer ≡ Stopped n text →
       (frontOf (keptAfter [] calls) ≡ front.Refused n) × Line (lastText address calls c) (n ∷ length (written records) % 18446744073709551616 ∷ [])
   pub ended : (text kept : ℕ) → c .returned .answer ≡ Played text kept → (turns : List HandTurn) → ByHand (handStart address) records turns →
@@ -54,6 +56,7 @@ end-says address calls earlier c six good bytes h e =
     record {
       records = blocks .records;
       up-to = blocks .up-to;
+      refused = λ n no. rw (no, ← blocks .place) (message-says (BadRecord n (s .place)));
       stopped = λ n text stop. (
         subst (λ (l : List ℕ). frontOf l ≡ front.Refused n) (sym (kept-last [] earlier c) ∙ ap (keptAfter []) (sym e)) (stops-at (blocks .each earlier c [] e .right) stop),
         rw (stop, ← blocks .place) (message-says (BadRecord n (s .place))),
