@@ -111,6 +111,17 @@ class Program(Holding):
         answer = start(address)
         return [said(answer if isinstance(answer, int) else 0)]
 
+    def call_called(self, rest):
+        """A call of the replay program with so many words, its name among them, of which this is the second."""
+        words, _, word = rest.partition(" ")
+        address = replay_texts.address_of(word)
+        if int(words) != 2:
+            return written(replay_texts.usage(1), self.room)
+        if address is None or isinstance(start(address), int):
+            return written(replay_texts.usage(2), self.room)
+        self.replay, self.kept = Session(address), 0
+        return ["begun"]
+
     def call_number(self, rest):
         """A number of the session, in two halves."""
         which, high, low = numbers(rest)

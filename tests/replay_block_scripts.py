@@ -285,6 +285,25 @@ def addresses():
         print("address " + text)
 
 
+def called():
+    """Calls of the replay program, by how many words they have and the second of them."""
+    title("an address: a session of it, with nothing kept")
+    for text in ("000000000000", "129078563412", "999999999998"):
+        blocks(SETTLE, [1])
+        print("called 2 " + text)
+        state()
+        blocks(SETTLE)
+    title("a bad address, and the session stays")
+    for text in ("999999999999", "", "1", "12345678901", "1234567890123", "12345678901:", "AAAAAAAAAAAA"):
+        print("called 2 " + text)
+    title("no address, and more than one word; that is said before a bad address")
+    for words in (0, 1, 3, 4294967295):
+        for text in (ONE, "999999999999", ""):
+            print("called %d %s" % (words, text))
+    print("called 1")
+    state()
+
+
 def script():
     """Prints these calls."""
     beginnings()
@@ -297,3 +316,4 @@ def script():
     frames()
     texts()
     addresses()
+    called()

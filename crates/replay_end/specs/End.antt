@@ -8,7 +8,8 @@ use Rattle.replay_block.specs.declared.BlockAnswer.the-variants.{Refused, Playe
 use Rattle.replay_text.specs.declared.Message.{Message}
 use Rattle.replay_text.specs.declared.Message.the-variants.{BadRecord, Replayed}
 
--- An answer to a block with so many bytes read is the last: a block that is played where none were read, and every other answer.
+-- An answer to a block with so many bytes read is the last, for a program that makes no call again: a block that is played where none were read, and
+-- every other answer.
 abbrev pub isLast : BlockAnswer → ℕ → Bool
 isLast (Refused n) read = true
 isLast (Played text kept) read = eqb read 0

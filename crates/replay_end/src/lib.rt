@@ -5,8 +5,8 @@ use replay_text::Message;
 ghost use mathlib.Core.Path.{_≡_};
 ghost use Rattle.replay_end.specs.End.{isLast, lastMessage};
 
-// Whether an answer to a block with so many bytes read is the last: a block that is played is so at the end of the trace, which a read of no bytes
-// tells; every other answer is.
+// Whether an answer to a block with so many bytes read is the last, for a program that makes no call again: a block that is played is so at the end
+// of the trace, which a read of no bytes tells; every other answer is.
 pub fn is_last(answer: BlockAnswer, read: usize) -> bool
     ensures { λ r. ⌜ r ≡ isLast answer read ⌝ }
 {

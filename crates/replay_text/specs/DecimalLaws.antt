@@ -2,12 +2,11 @@
 use Prim.Native.Nat.{ℕ, zero, suc, _+_, _-_, _*_, _/_, _%_, _^_, _≤_, _<_}
 use mathlib.Core.Path.{_≡_, refl, _∙_}
 use mathlib.Core.List.{List, [], _∷_, _++_}
-use mathlib.Core.Bool.{Bool, true, false}
 use native.Mathlib.Nat.{pow-succ', pow-le-pow-right, not-suc-le-zero}
 use native.Mathlib.Omega.{arith}
 use lib.ListN.{length, getD, length-append}
-use lib.Dec.{leb, ltb}
-use borrow.Author.Tests.{lt-ltb, le-ltb, ltb-true, ltb-false, leb-true, leb-false}
+use lib.Dec.{ltb}
+use borrow.Author.Tests.{lt-ltb, le-ltb, ltb-true, ltb-false}
 use Rattle.io.specs.Digits.{digits, Fewest}
 use Rattle.laws.specs.All.{AllOf}
 use Rattle.laws.specs.AllLaws.{all-append}
@@ -88,11 +87,13 @@ unfolding decimal
 written-decimal count n few = fewest-within count (suc n) n (omega arith) few
 
 -- A number below 10^20, as every one of 64 bits is, has at most twenty digits.
-pub fewest-most : (count n : ℕ) → n < 10 ^ 20 → Fewest 10 1 n count → count ≤ 20
-fewest-most count n small few = by (leb count 20) refl
+pub decimal-most : (n : ℕ) → n < 10 ^ 20 → length (decimal n) ≤ 20
+unfolding decimal
+decimal-most n small = decimal-cases Few (λ n below k h. omega arith) more (suc n) n (omega arith) 19 small
   where
-    by : (t : Bool) → leb count 20 ≡ t → count ≤ 20
-    by true h = leb-true count 20 h
-    by false h =
-        let above = leb-false count 20 h in
-        absurd (omega (arith, few .2 (omega arith), pow-le-pow-right {n = 10} (omega arith) {i = 20} {j = count - 1} (omega arith)))
+    Few : ℕ → List ℕ → Type 0
+    Few n text = (k : ℕ) → n < 10 ^ suc k → length text ≤ suc k
+
+    more : (n : ℕ) (front : List ℕ) → 10 ≤ n → Few (n / 10) front → Few n (front ++ ((48 + n % 10) ∷ []))
+    more n front h few zero below = absurd (omega arith)
+    more n front h few (suc k) below = rw length-append (omega (arith, few k (omega (arith, pow-succ' 10 (suc k)))))

@@ -1,17 +1,17 @@
--- What is said in words: each message is one line, and a reason one more before how the program is called; the numbers that stand in them are these,
--- in this order; what a writing answers and leaves; and worked lines.
-use Prim.Native.Nat.{ℕ, _+_, _*_, _<_}
+-- What is said in words: a refused record or block and the end are each one line in which these numbers stand, in this order; how the program is
+-- called, to the letter; what a writing answers and leaves; and worked lines.
+use Prim.Native.Nat.{ℕ, _+_, _*_, _≤_, _<_}
 use mathlib.Core.Path.{_≡_, refl, ap, _∙_}
 use mathlib.Core.List.{List, [], _∷_, _++_, append-assoc}
 use mathlib.Core.Bool.{Bool, true, false, _&&_, not, false≢true}
 use native.Mathlib.Nat.{not-suc-le-zero}
 use native.Mathlib.Omega.{arith}
-use lib.ListN.{length, take, drop}
+use lib.ListN.{length, take, drop, length-append}
 use lib.Seq.{take-append-seam, drop-append-seam}
 use lib.Dec.{leb, eqb}
-use borrow.Author.Tests.{ne-eqb}
+use borrow.Author.Tests.{ne-eqb, leb-false}
 use Rattle.laws.specs.All.{allOf, AllOf}
-use Rattle.laws.specs.Memory.{Outcome}
+use Rattle.laws.specs.Memory.{Outcome, over}
 use Rattle.laws.specs.Test.{pick}
 use Rattle.laws.specs.TestLaws.{pick-cases}
 use Rattle.frame.specs.Refusals.{badRecord, cutOff}
@@ -19,6 +19,7 @@ use Rattle.replay_address.specs.Digits.{isDigit, worth, spelled, spelledFrom, I
 use Rattle.replay_text.specs.Decimal.{decimal, decimalWithin}
 use Rattle.replay_text.specs.DecimalLaws.{decimal-digits, decimal-spelled}
 use Rattle.replay_text.specs.Texts.{quoted, labelled, writing, meaning, refusedText, countsText, usage, reasonText, usageText, messageText}
+use Rattle.replay_text.specs.TextLaws.{Of64Bits, message-most}
 use Rattle.replay_text.specs.declared.Message.{Message}
 use Rattle.replay_text.specs.declared.Message.the-variants.{BadRecord, Replayed, Usage}
 use Rattle.replay_text.specs.declared.Reason.{Reason}
@@ -190,25 +191,14 @@ counts-line records frames replies =
     let second = labelled-behind (quoted ", frames put to the meter ") refl frames third (omega arith) in
     simp append-assoc (labelled-first (quoted "replay_trace: records ") refl records second)
 
--- A line without a number.
-plain-line : (label : List ℕ) → Plain label → Line (label ++ (10 ∷ [])) []
-unfolding isOneLine numbersIn numbersFrom isDigit
-plain-line label plain = record { one = label-line label (10 ∷ []) plain; says = label-read label (10 ∷ []) plain }
+-- How the program is called, behind why that is said.
+abbrev pub usageLine : List ℕ
+usageLine = quoted "usage: replay_trace ADDRESS < TRACE   plays a trace to a fresh meter of this address, twelve digits, and lists its replies\n"
 
--- Why it is said how the program is called: nothing where that was asked, else one line.
-abbrev pub IsReason : Reason → List ℕ → Type 0
-IsReason Asked why = why ≡ []
-IsReason NotOneArgument why = Line why []
-IsReason BadAddress why = Line why []
-
--- How the program is called, in one line behind the reason.
-pub record SaysHow (reason : Reason) (text : List ℕ) : Type 0 where
-  pub why : List ℕ
-  pub how : List ℕ
-  pub both : text ≡ why ++ how
-  pub is-reason : IsReason reason why
-  pub line : Line how []
-  pub exact : how ≡ quoted "usage: replay_trace ADDRESS < TRACE   plays a trace to a fresh meter of this address, twelve digits, and lists its replies\n"
+abbrev pub SaysHow : Reason → List ℕ → Type 0
+SaysHow Asked text = text ≡ usageLine
+SaysHow NotOneArgument text = text ≡ quoted "replay_trace: one argument is needed, the address of the meter\n" ++ usageLine
+SaysHow BadAddress text = text ≡ quoted "replay_trace: the address has to be twelve digits, and not twelve nines\n" ++ usageLine
 
 -- What a message says: of a refused record the refusal's number and the place; at the end the records, the frames and the replies; else how the program is
 -- called.
@@ -219,29 +209,19 @@ Says (Usage reason) text = SaysHow reason text
 
 -- Every message.
 pub message-says : (message : Message) → Says message (messageText message)
-unfolding messageText usageText reasonText usage allOf isPlain isDigit
+unfolding messageText usageText reasonText usage
 message-says (BadRecord refusal place) = refused-line refusal place
 message-says (Replayed records frames replies) = counts-line records frames replies
-message-says (Usage reason) =
-    record {
-      why = reasonText reason;
-      how = usage;
-      both = refl;
-      is-reason = is reason;
-      line = plain-line (quoted "usage: replay_trace ADDRESS < TRACE   plays a trace to a fresh meter of this address, twelve digits, and lists its replies") refl;
-      exact = refl;
-    }
-  where
-    is : (reason : Reason) → IsReason reason (reasonText reason)
-    is Asked = refl
-    is NotOneArgument = plain-line (quoted "replay_trace: one argument is needed, the address of the meter") refl
-    is BadAddress = plain-line (quoted "replay_trace: the address has to be twelve digits, and not twelve nines") refl
+message-says (Usage Asked) = refl
+message-says (Usage NotOneArgument) = refl
+message-says (Usage BadAddress) = refl
 
 -- What a writing of a message answers and leaves: as many bytes as it says are the message, and what is beyond them is as it was; where the memory is too
--- short, all of it is as it was.
+-- short, all of it is as it was, and 256 bytes are never too short.
 pub record WrittenWords (message : Message) (m : List ℕ) (answer : Written) (left : List ℕ) : Type 0 where
-  pub written : (n : ℕ) → answer ≡ Length n → Says message (take n left) × (drop n left ≡ drop n m)
+  pub written : (n : ℕ) → answer ≡ Length n → (n ≤ length left) × Says message (take n left) × (drop n left ≡ drop n m)
   pub unwritten : answer ≡ TooLittleMemory → left ≡ m
+  pub enough : Of64Bits message → 256 ≤ length m → (n : ℕ) × (answer ≡ Length n)
 
 pub written-words : (message : Message) (m : List ℕ) → let o = writing (messageText message) m in WrittenWords message m (o .answer) (o .memory)
 unfolding writing
@@ -250,10 +230,16 @@ written-words message m =
     (λ room. record {
       written = λ n e.
           let same : n ≡ length (messageText message) = cc in
-          rw (same, take-append-seam (messageText message) _, drop-append-seam (messageText message) _) (message-says message, refl);
+          let within : n ≤ length (over (messageText message) m) = rw length-append (omega arith) in
+          rw (same, take-append-seam (messageText message) _, drop-append-seam (messageText message) _) (rw same at within, message-says message, refl);
       unwritten = λ e. let z : _≡_ {A = ℕ} 0 1 = cc in absurd (omega arith);
+      enough = λ numbers long. (length (messageText message), refl);
     })
-    (λ short. record { written = λ n e. let z : _≡_ {A = ℕ} 0 1 = cc in absurd (omega arith); unwritten = λ e. refl })
+    (λ short. record {
+      written = λ n e. let z : _≡_ {A = ℕ} 0 1 = cc in absurd (omega arith);
+      unwritten = λ e. refl;
+      enough = λ numbers long. absurd (omega (arith, leb-false (length (messageText message)) (length m) short, message-most message numbers));
+    })
   where
     P : Outcome Written → Type 0
     P o = WrittenWords message m (o .answer) (o .memory)
@@ -274,12 +260,3 @@ out-of-ranges = refl
 three-counts : countsText 110 7 0 ≡ quoted "replay_trace: records 110, frames put to the meter 7, replies 0\n"
 unfolding countsText labelled decimal decimalWithin
 three-counts = refl
-
--- A missing address, and a bad one.
-missing : take 63 (messageText (Usage NotOneArgument)) ≡ quoted "replay_trace: one argument is needed, the address of the meter\n"
-unfolding messageText usageText reasonText usage
-missing = refl
-
-bad : take 72 (messageText (Usage BadAddress)) ≡ quoted "replay_trace: the address has to be twelve digits, and not twelve nines\n"
-unfolding messageText usageText reasonText usage
-bad = refl

@@ -35,7 +35,8 @@ meaning refusal =
     pick (eqb refusal badRecord) (quoted ": an unknown kind of record, or a field out of its range\n")
     (pick (eqb refusal cutOff) (quoted ": the trace ends inside the record\n") (quoted "\n"))
 
--- The line of a record that is refused: the refusal's number, the place where the record begins in the whole trace, and what the number means.
+-- The line of a record, or a block, that is refused: the number, the place in the whole trace where the record begins that is not played, and what
+-- the number means of a record.
 unfoldable pub refusedText : ℕ → ℕ → List ℕ
 refusedText refusal place = labelled (quoted "replay_trace: refused with ") refusal ++ labelled (quoted " at place ") place ++ meaning refusal
 

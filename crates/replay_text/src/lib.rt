@@ -33,7 +33,7 @@ pub enum Reason {
 
 // What the program says.
 pub enum Message {
-    // A record is refused, by document 02's number, and begins at this place of the whole trace.
+    // A record, or a block, is refused with this number; the record that is not played begins at this place of the whole trace.
     BadRecord {
         refusal: u8,
         place: u64,
@@ -48,8 +48,8 @@ pub enum Message {
     Usage(Reason),
 }
 
-// The length of a buffer in which every text fits.
-const LINE: usize = 256;
+// The length of a memory in which every message fits.
+pub const MESSAGE_MEMORY: usize = 256;
 
 // Puts what a refusal means, and the end of the line, behind the first `at` bytes of a line, and returns where it ends.
 fn put_meaning(refusal: u8, at: usize, line: &mut [u8]) -> usize
@@ -143,7 +143,7 @@ fn put_message(message: Message, line: &mut [u8]) -> usize
 pub fn write_message(message: Message, out: &mut [u8]) -> Written
     ensures { λ r. ⌜ outcome r (now (out .exit)) ≡ writing (messageText message) (now (out .entry)) ⌝ }
 {
-    let mut line = [0u8; LINE];
+    let mut line = [0u8; MESSAGE_MEMORY];
     let used = put_message(message, &mut line);
     if out.len() < used {
         return Written::TooLittleMemory;

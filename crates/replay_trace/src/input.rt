@@ -1,5 +1,5 @@
 // The trace on standard input, replayed up to its end: bytes are read, played and their text is written in blocks.
-ghost use Prim.Native.Nat.{_≤_};
+ghost use Prim.Native.Nat.{_+_, _*_, _≤_};
 ghost use mathlib.Core.Path.{_≡_};
 ghost use lib.ListN.{length};
 use libc::STDIN_FILENO;
@@ -57,15 +57,16 @@ fn play_read(
     buffer: &mut [u8],
     text: &mut [u8],
 ) -> Progress
+    requires { ⌜ (kept + read ≤ length (now buffer)) × (8192 + 18 * (kept + read) ≤ length (now text)) ⌝ }
     ensures { λ r. ⌜ r .kept ≤ 6 ⌝ }
 {
     let played = replay_block::play_block(buffer, kept, read, session, text);
     let session = played.session;
     let answer = played.answer;
     match answer {
-        // Only memory that is too short is refused (`blocks-replayed`), and both are long enough.
+        // From a beginning only memory that is too short is refused (`blocks-replayed`), and both are long enough.
         BlockAnswer::Refused(_) => {
-            return stopped(session, Next::Last(answer));
+            return stopped(session, after(answer, read));
         }
         BlockAnswer::Played {
             text: used,
@@ -87,14 +88,14 @@ fn play_read(
             if !io::write_all(STDOUT_FILENO, &text[..used]) {
                 return stopped(session, Next::Unwritten);
             }
-            return stopped(session, Next::Last(answer));
+            return stopped(session, after(answer, read));
         }
     }
 }
 
 // Reads a block behind the bytes kept, and plays it.
 fn turn(session: Session, kept: usize, buffer: &mut [u8], text: &mut [u8]) -> Progress
-    requires { ⌜ (kept ≤ 6) × (8198 ≤ length (now buffer)) ⌝ }
+    requires { ⌜ (kept ≤ 6) × (8198 ≤ length (now buffer)) × (155756 ≤ length (now text)) ⌝ }
     ensures { λ r. ⌜ r .kept ≤ 6 ⌝ }
 {
     let end = kept + BLOCK;
@@ -119,7 +120,7 @@ fn goes_on(next: Next) -> bool {
 // Replays the whole trace, and says how it ended. A proved loop has to end, and nothing says that the input does: so the loop counts its turns
 // down, from a number that no run uses up.
 pub(crate) fn replay_all(session: Session, buffer: &mut [u8], text: &mut [u8]) -> Progress
-    requires { ⌜ 8198 ≤ length (now buffer) ⌝ }
+    requires { ⌜ (8198 ≤ length (now buffer)) × (155756 ≤ length (now text)) ⌝ }
 {
     let mut present = session;
     let mut kept = 0;

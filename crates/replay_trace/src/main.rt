@@ -7,25 +7,23 @@ mod input;
 use input::Next;
 use libc::STDERR_FILENO;
 use libc::STDOUT_FILENO;
-use meter_counting::HostAnswer;
-use replay_address::read_address;
+use replay_begin::Opening;
+use replay_begin::begin_with;
 use replay_block::Session;
 use replay_end::last_message;
+use replay_text::MESSAGE_MEMORY;
 use replay_text::Message;
 use replay_text::Reason;
 use replay_text::Written;
 
-// The length of the memory for a message.
-const MESSAGE: usize = 256;
-
-// Says a message; one that does not fit is not said.
+// Says a message; every one fits (`written-words`).
 fn say(fd: i32, message: Message) {
-    let mut text = [0u8; MESSAGE];
+    let mut text = [0u8; MESSAGE_MEMORY];
     let written = replay_text::write_message(message, &mut text);
     let Written::Length(length) = written else {
         return;
     };
-    if MESSAGE < length {
+    if MESSAGE_MEMORY < length {
         return;
     }
     io::write_all(fd, &text[..length]);
@@ -47,34 +45,20 @@ fn replay_input(session: Session) {
     }
 }
 
-// Replays with the address that the argument spells. One that is longer than an address is read as an empty text.
-fn replay_with_argument() {
-    let mut word = [0u8; 12];
-    let n = os::arg(1, &mut word);
-    let read = read_address(&word[..n]);
-    if !read.found {
-        say(STDERR_FILENO, Message::Usage(Reason::BadAddress));
-        return;
-    }
-    let address = read.address;
-    let begun = replay_block::begin(address);
-    let answer = begun.answer;
-    let session = begun.session;
-    match answer {
-        HostAnswer::Refused(_) => say(STDERR_FILENO, Message::Usage(Reason::BadAddress)),
-        HostAnswer::Done => replay_input(session),
-    }
-}
-
+// Replays with the address that the argument spells; one that is longer than an address is read as an empty text.
 fn main() {
-    let count = os::arg_count();
-    if program_input::asks_for_help(count) {
+    let words = os::arg_count();
+    if program_input::asks_for_help(words) {
         say(STDOUT_FILENO, Message::Usage(Reason::Asked));
         return;
     }
-    if count != 2 {
-        say(STDERR_FILENO, Message::Usage(Reason::NotOneArgument));
-        return;
+    let mut word = [0u8; 12];
+    let n = os::arg(1, &mut word);
+    let beginning = begin_with(words, &word[..n]);
+    let session = beginning.session;
+    let opening = beginning.opening;
+    match opening {
+        Opening::Begun => replay_input(session),
+        Opening::Said(message) => say(STDERR_FILENO, message),
     }
-    replay_with_argument();
 }

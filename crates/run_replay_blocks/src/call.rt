@@ -4,6 +4,7 @@ use run_script_calls::place_among;
 // A call that changes what stands between two lines.
 pub(crate) enum Verb {
     Begin,
+    Called,
     Number,
     Sizes,
     Block,
@@ -28,14 +29,15 @@ pub(crate) enum Shown {
 
 // The call with a change that a word names.
 pub(crate) fn verb_of(word: &[u8]) -> Verb {
-    match place_among(b"begin number sizes block play frames break", word) {
+    match place_among(b"begin called number sizes block play frames break", word) {
         0 => Verb::Begin,
-        1 => Verb::Number,
-        2 => Verb::Sizes,
-        3 => Verb::Block,
-        4 => Verb::Play,
-        5 => Verb::Frames,
-        6 => Verb::Break,
+        1 => Verb::Called,
+        2 => Verb::Number,
+        3 => Verb::Sizes,
+        4 => Verb::Block,
+        5 => Verb::Play,
+        6 => Verb::Frames,
+        7 => Verb::Break,
         _ => Verb::Other,
     }
 }

@@ -2,6 +2,8 @@
 //
 //     # ..                              a comment, copied, as an empty line is
 //     begin AAAAAAAAAAAA                a session of an address, high digits first; no bytes are kept
+//     called N TEXT                     the session that a call of the replay program begins, of so many words, of which the second is the text; or
+//                                       what the program says
 //     number N HIGH LOW                 sets a number of the session, in two halves of 32 bits: its place, records, frames or replies for N of 0 to 3
 //     sizes OUT BUFFER KEPT             how many bytes later calls are lent: of output buffer, at most 12,000, and of the buffer of the blocks, at most
 //                                       256, both as at the start; and how many bytes at the front of the latter are kept
@@ -69,6 +71,7 @@ fn run_line(state: State, line: &[u8], buffer: &mut [u8]) -> State {
     let verb = verb_of(word);
     match verb {
         Verb::Begin => state.begin(behind),
+        Verb::Called => state.called(behind),
         Verb::Number => state.number(numbers),
         Verb::Sizes => state.sized(numbers),
         Verb::Block => block::block(state, behind, buffer),

@@ -1,11 +1,18 @@
 // What stands between two lines of the script, and the calls that change it and play no block.
+use bytes::scan::find;
 use replay::ReplayState;
+use replay_begin::Opening;
+use replay_begin::begin_with;
 use replay_block::Session;
 use run_replay_parts::given;
 use run_replay_parts::memory::MEMORY;
+use run_replay_parts::memory::at_most;
 use run_replay_parts::put::put;
+use run_replay_parts::text::show;
 use run_script_answers::told::write_answer;
 use run_text::read::Numbers;
+use run_text::read::read_numbers;
+use run_text::write::write;
 
 // How many bytes the buffer of the blocks has.
 pub(crate) const BUFFER: usize = 256;
@@ -38,10 +45,36 @@ impl State {
         let answer = begun.answer;
         write_answer(answer);
         let session = begun.session;
+        self.with_session(session)
+    }
+
+    // With another session, from the first record of a trace on.
+    fn with_session(self, session: Session) -> State {
         let mut next = self;
         next.session = session;
         next.kept = 0;
         next
+    }
+
+    // With the session that a call of the replay program begins, or as it was with what the program says: behind a blank stands how many words
+    // the call has, and behind another its second word.
+    pub(crate) fn called(self, text: &[u8]) -> State {
+        let end = find(text, at_most(text.len(), 1), text.len(), b' ');
+        let numbers = read_numbers(&text[..end], u32::MAX);
+        let start = at_most(text.len(), end + 1);
+        let beginning = begin_with(numbers.d as usize, &text[start..]);
+        let session = beginning.session;
+        let opening = beginning.opening;
+        match opening {
+            Opening::Begun => {
+                write(b"begun\n");
+                self.with_session(session)
+            }
+            Opening::Said(message) => {
+                show(message, self.room);
+                self
+            }
+        }
     }
 
     // With another number of its session, given as two halves.

@@ -6,7 +6,7 @@ use borrow.Author.Needs.{needs}
 use lib.ListN.{length, take, length-append}
 use lib.Seq.{length-take-le}
 use Rattle.replay_text.specs.Decimal.{decimal}
-use Rattle.replay_text.specs.DecimalLaws.{written-decimal, fewest-most}
+use Rattle.replay_text.specs.DecimalLaws.{written-decimal, decimal-most}
 use Rattle.replay_text.proofs.put.put_number.Statement.{statement}
 use Rattle.replay_text.proofs.put.put_number.Tie as tie
 
@@ -19,7 +19,7 @@ most : (c : tie.After-decimal) → length (take (c .decimal .result) (c .decimal
 most c =
     let s = c .before .before .before in
     let small : s .args .number < 10 ^ 20 = omega (arith, s .fits .number .fits) in
-    rw (length-take-le _ _ (c .decimal .ensures .0 .0)) (fewest-most _ _ small (c .decimal .ensures .1 .0))
+    rw (spelt c) (decimal-most (s .args .number) small)
 
 put-requires : tie.Need-put-requires
 put-requires c κs = omega (arith, most (c .before .before))
