@@ -1,6 +1,7 @@
 -- How the replay program begins.
 use Prim.Native.Nat.{ℕ}
 use mathlib.Core.List.{List, replicate}
+use mathlib.Core.Bool.{_&&_}
 use lib.Dec.{eqb}
 use Rattle.laws.specs.Test.{pick}
 use Rattle.meter_counting.specs.declared.HostAnswer.{HostAnswer}
@@ -19,7 +20,7 @@ noMeter = replicate 6 255
 
 -- The address that the second of two words spells.
 unfoldable pub addressGiven : ℕ → List ℕ → List ℕ
-addressGiven words word = pick (eqb words 2) (pick (addressRead word .found) (addressRead word .address) noMeter) noMeter
+addressGiven words word = pick (eqb words 2 && addressRead word .found) (addressRead word .address) noMeter
 
 -- By the answer to the beginning of a session, in a call of so many words.
 abbrev pub openingBy : HostAnswer → ℕ → Opening

@@ -2,12 +2,12 @@
 -- and for a bad one, and a session in which nothing can be played.
 use Prim.Native.Nat.{ℕ}
 use mathlib.Core.Path.{_≡_, refl, sym, _∙_}
-use mathlib.Core.Bool.{Bool, true, false, false≢true}
+use mathlib.Core.Bool.{Bool, true, false, _&&_, false≢true, and-eq-true-iff}
 use mathlib.Core.Logic.{_↔_}
 use mathlib.Core.List.{List}
 use native.Mathlib.Omega.{arith}
 use lib.Dec.{eqb}
-use borrow.Author.Tests.{eqb-true, eqb-false}
+use borrow.Author.Tests.{eqb-true, eqb-false, eq-eqb}
 use Rattle.laws.specs.TestLaws.{pick-cases}
 use Rattle.item_address.specs.Address.{Good, isGood}
 use Rattle.item_address.specs.AddressLaws.{good, is-good}
@@ -21,7 +21,7 @@ use Rattle.replay_text.specs.declared.Message.{Message}
 use Rattle.replay_text.specs.declared.Message.the-variants.{Usage}
 use Rattle.replay_text.specs.declared.Reason.{Reason}
 use Rattle.replay_text.specs.declared.Reason.the-variants.{NotOneArgument, BadAddress}
-use Rattle.replay_begin.specs.Beginning.{noMeter, addressGiven, beginning}
+use Rattle.replay_begin.specs.Beginning.{addressGiven, beginning}
 use Rattle.replay_begin.specs.declared.Opening.the-variants.{Begun, Said}
 use Rattle.replay_begin.specs.declared.Beginning.{Beginning}
 
@@ -46,32 +46,29 @@ record IsGiven (words : ℕ) (word address : List ℕ) : Type 0 where
   exactly : Good address ↔ NamesAMeter words word
   spells : NamesAMeter words word → Spells word address
 
--- No meter is named, and no address is given.
-none-given : {words : ℕ} {word : List ℕ} → (NamesAMeter words word → ⊥) → IsGiven words word noMeter
-none-given unnamed =
-    record {
-      exactly = (λ fine. absurd (omega (arith, fine .decimal .0)), λ names. absurd (unnamed names));
-      spells = λ names. absurd (unnamed names);
-    }
-
 given : (words : ℕ) (word : List ℕ) → IsGiven words word (addressGiven words word)
 unfolding addressGiven
 given words word =
     let read = address-reads word in
-    pick-cases P (eqb words 2)
-    (λ two. pick-cases P (addressRead word .found)
-    (λ found. record {
+    let both = and-eq-true-iff (eqb words 2) (addressRead word .found) in
+    pick-cases (IsGiven words word) (eqb words 2 && addressRead word .found)
+    (λ yes.
+    let two = eqb-true words 2 (both .0 yes .0) in
+    let found = both .0 yes .1 in
+    record {
       exactly = (
-        λ fine. record { two = eqb-true words 2 two; digits = read .exactly .0 found; no-nines = read .good found .0 fine },
+        λ fine. record { two = two; digits = read .exactly .0 found; no-nines = read .good found .0 fine },
         λ names. read .good found .1 (names .no-nines),
       );
       spells = λ names. read .spells found;
     })
-    (λ lost. none-given (λ names. false≢true (sym lost ∙ read .exactly .1 (names .digits)))))
-    (λ other. none-given (λ names. eqb-false words 2 other (names .two)))
-  where
-    P : List ℕ → Type 0
-    P = IsGiven words word
+    (λ none.
+    let unnamed : NamesAMeter words word → ⊥ =
+    λ names. false≢true (sym none ∙ both .1 (eq-eqb words 2 (names .two), read .exactly .1 (names .digits))) in
+    record {
+      exactly = (λ fine. absurd (omega (arith, fine .decimal .0)), λ names. absurd (unnamed names));
+      spells = λ names. absurd (unnamed names);
+    })
 
 -- Openings that differ.
 not-said : {A : Type 0} {m : Message} → Begun ≡ Said m → A

@@ -24,14 +24,11 @@ pub struct Beginning {
 fn address_given(words: usize, word: &[u8]) -> [u8; 6]
     ensures { λ r. ⌜ r ≡ addressGiven words (now (word .entry)) ⌝ }
 {
-    if words != 2 {
-        return [255; 6];
-    }
     let read = read_address(word);
-    if !read.found {
-        return [255; 6];
+    if (words == 2) & read.found {
+        return read.address;
     }
-    read.address
+    [255; 6]
 }
 
 // Whether a session begins, by the answer to its beginning in a call of so many words.

@@ -163,7 +163,7 @@ pub record BlockIsRight (rest : List ℕ) (c : BlockCall) : Type 0 where
   -- a stop leaves the buffer; what is beyond its text, which lies within its memory, is as it was
   pub stopped-leaves : (n text : ℕ) → c .returned .answer ≡ Stopped n text →
       (c .leftBuffer ≡ c .buffer) × (text ≤ length (c .left)) × (drop text (c .left) ≡ drop text (c .lent))
-  -- a block that is played keeps as many bytes as it says, at most 6; what is beyond them and beyond its text is as it was
+  -- a block that is played keeps as many bytes as it says, at most 6, and these are what is left; what is beyond them and beyond its text is as it was
   pub played-leaves : (text kept : ℕ) → c .returned .answer ≡ Played text kept →
       (kept ≡ length rest) × (kept ≤ 6) × (drop kept (c .leftBuffer) ≡ drop kept (c .buffer))
       × (text ≤ length (c .left)) × (drop text (c .left) ≡ drop text (c .lent))
@@ -176,8 +176,7 @@ pub record HasRead (rest : List ℕ) (c : BlockCall) : Type 0 where
 
 -- What holds of a call in a session within its ranges, behind these bytes kept.
 pub record CallIsRight (before : List ℕ) (s : Session) (c : BlockCall) : Type 0 where
-  -- it is never refused with 16; with 1 exactly where the buffer or the text memory is too short, and with no other number
-  pub within : c .returned .answer ≡ Refused 16 → ⊥
+  -- it is refused with 1 exactly where the buffer or the text memory is too short, and with no other number: never with 16
   pub one : (c .returned .answer ≡ Refused 1) ↔ TooShort (c .kept) (c .read) (c .buffer) (c .lent)
   pub others : (n : ℕ) → c .returned .answer ≡ Refused n → n ≡ 1
   -- refused, it has changed nothing
@@ -362,7 +361,6 @@ ends-at {rest} {c} {text} {kept} right e end = by (right .played .0 (text, kept,
 pub call-right : (before : List ℕ) (s : Session) (c : BlockCall) → isWithin (s .state) ≡ true → IsBlock s c → CallIsRight before s c
 call-right before s c within h =
     record {
-      within = λ e. words .sixteen .0 e ranges;
       one = (λ e. words .one .0 e .1, λ short. words .one .1 (ranges, short));
       others = λ n e. number n e (words .others n e);
       refused = λ n e. unchanged (blocking h) e;

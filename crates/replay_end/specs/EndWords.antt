@@ -50,10 +50,10 @@ pub record SaysTheEnd (address : List ℕ) (calls : List BlockCall) (c : BlockCa
       traceOf calls ≡ written (blocks .records)
   pub ended : (text kept : ℕ) → c .returned .answer ≡ Played text kept → (turns : List HandTurn) → ByHand (handStart address) (blocks .records) turns →
       Line (lastText address calls c) (
-        length (blocks .records) % 18446744073709551616
-        ∷ length (framesPutIn turns) % 18446744073709551616
-        ∷ length (repliesGiven turns) % 18446744073709551616
-        ∷ []
+      length (blocks .records) % 18446744073709551616
+      ∷ length (framesPutIn turns) % 18446744073709551616
+      ∷ length (repliesGiven turns) % 18446744073709551616
+      ∷ []
       )
 
 -- Every list of calls.

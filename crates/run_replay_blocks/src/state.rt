@@ -60,7 +60,7 @@ impl State {
     // the call has, and behind another its second word.
     pub(crate) fn called(self, text: &[u8]) -> State {
         let end = find(text, at_most(text.len(), 1), text.len(), b' ');
-        let numbers = read_numbers(&text[..end], u32::MAX);
+        let numbers = read_numbers(&text[0..end], u32::MAX);
         let start = at_most(text.len(), end + 1);
         let beginning = begin_with(numbers.d as usize, &text[start..]);
         let session = beginning.session;
