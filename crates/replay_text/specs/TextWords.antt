@@ -1,5 +1,5 @@
 -- What is said in words: a refused record or block and the end are each one line in which these numbers stand, in this order; how the program is
--- called, to the letter; what a writing answers and leaves; and worked lines.
+-- called, to the letter; worked lines; what a writing answers and leaves.
 use Prim.Native.Nat.{ℕ, _+_, _*_, _≤_, _<_}
 use mathlib.Core.Path.{_≡_, refl, ap, _∙_}
 use mathlib.Core.List.{List, [], _∷_, _++_, append-assoc}
@@ -17,9 +17,9 @@ use Rattle.laws.specs.TestLaws.{pick-cases}
 use Rattle.frame.specs.Refusals.{badRecord, cutOff}
 use Rattle.replay_address.specs.Digits.{isDigit, worth, spelled, spelledFrom, IsDigit, digit-iff}
 use Rattle.replay_text.specs.Decimal.{decimal, decimalWithin}
-use Rattle.replay_text.specs.DecimalLaws.{decimal-digits, decimal-spelled}
+use Rattle.replay_text.specs.DecimalLaws.{decimal-digits, decimal-spelled, decimal-most}
 use Rattle.replay_text.specs.Texts.{quoted, labelled, writing, meaning, refusedText, countsText, usage, reasonText, usageText, messageText}
-use Rattle.replay_text.specs.TextLaws.{Of64Bits, message-most}
+use Rattle.replay_text.specs.TextLaws.{reason-most}
 use Rattle.replay_text.specs.declared.Message.{Message}
 use Rattle.replay_text.specs.declared.Message.the-variants.{BadRecord, Replayed, Usage}
 use Rattle.replay_text.specs.declared.Reason.{Reason}
@@ -216,6 +216,60 @@ message-says (Usage Asked) = refl
 message-says (Usage NotOneArgument) = refl
 message-says (Usage BadAddress) = refl
 
+-- A record of an unknown kind at the beginning; a trace that ends inside a record; a number without a meaning here; the end of a replay.
+first-refused : refusedText 9 0 ≡ quoted "replay_trace: refused with 9 at place 0: an unknown kind of record, or a field out of its range\n"
+unfolding refusedText labelled meaning decimal decimalWithin
+first-refused = refl
+
+cut-off : refusedText 10 81920 ≡ quoted "replay_trace: refused with 10 at place 81920: the trace ends inside the record\n"
+unfolding refusedText labelled meaning decimal decimalWithin
+cut-off = refl
+
+out-of-ranges : refusedText 16 0 ≡ quoted "replay_trace: refused with 16 at place 0\n"
+unfolding refusedText labelled meaning decimal decimalWithin
+out-of-ranges = refl
+
+three-counts : countsText 110 7 0 ≡ quoted "replay_trace: records 110, frames put to the meter 7, replies 0\n"
+unfolding countsText labelled decimal decimalWithin
+three-counts = refl
+
+-- A label and a number of 64 bits has at most twenty bytes more than the label.
+labelled-most : (label : List ℕ) (n : ℕ) → n < 18446744073709551616 → length (labelled label n) ≤ length label + 20
+unfolding labelled
+labelled-most label n small = rw length-append (omega (arith, decimal-most n (omega arith)))
+
+-- No meaning of a refusal is longer than this.
+meaning-most : (refusal : ℕ) → length (meaning refusal) ≤ 64
+unfolding meaning
+meaning-most refusal =
+    pick-cases Short (eqb refusal badRecord) (λ _. omega arith) (λ _. pick-cases Short (eqb refusal cutOff) (λ _. omega arith) (λ _. omega arith))
+  where
+    Short : List ℕ → Type 0
+    Short text = length text ≤ 64
+
+-- The numbers of a message are below 2^64.
+abbrev pub Of64Bits : Message → Type 0
+Of64Bits (BadRecord refusal place) = (refusal < 18446744073709551616) × (place < 18446744073709551616)
+Of64Bits (Replayed records frames replies) =
+    (records < 18446744073709551616) × (frames < 18446744073709551616) × (replies < 18446744073709551616)
+Of64Bits (Usage reason) = Unit
+
+-- No message is longer than 256 bytes.
+pub message-most : (message : Message) → Of64Bits message → length (messageText message) ≤ 256
+unfolding messageText refusedText countsText usageText usage
+message-most (BadRecord refusal place) (r, p) =
+    rw (length-append, length-append)
+    (omega (arith, labelled-most (quoted "replay_trace: refused with ") refusal r, labelled-most (quoted " at place ") place p, meaning-most refusal))
+message-most (Replayed records frames replies) (r, f, p) =
+    rw (length-append, length-append, length-append)
+    (omega (
+      arith,
+      labelled-most (quoted "replay_trace: records ") records r,
+      labelled-most (quoted ", frames put to the meter ") frames f,
+      labelled-most (quoted ", replies ") replies p,
+    ))
+message-most (Usage reason) _ = rw length-append (omega (arith, reason-most reason))
+
 -- What a writing of a message answers and leaves: as many bytes as it says are the message, and what is beyond them is as it was; where the memory is too
 -- short, all of it is as it was, and 256 bytes are never too short.
 pub record WrittenWords (message : Message) (m : List ℕ) (answer : Written) (left : List ℕ) : Type 0 where
@@ -243,20 +297,3 @@ written-words message m =
   where
     P : Outcome Written → Type 0
     P o = WrittenWords message m (o .answer) (o .memory)
-
--- A record of an unknown kind at the beginning; a trace that ends inside a record; a number without a meaning here; the end of a replay.
-first-refused : refusedText 9 0 ≡ quoted "replay_trace: refused with 9 at place 0: an unknown kind of record, or a field out of its range\n"
-unfolding refusedText labelled meaning decimal decimalWithin
-first-refused = refl
-
-cut-off : refusedText 10 81920 ≡ quoted "replay_trace: refused with 10 at place 81920: the trace ends inside the record\n"
-unfolding refusedText labelled meaning decimal decimalWithin
-cut-off = refl
-
-out-of-ranges : refusedText 16 0 ≡ quoted "replay_trace: refused with 16 at place 0\n"
-unfolding refusedText labelled meaning decimal decimalWithin
-out-of-ranges = refl
-
-three-counts : countsText 110 7 0 ≡ quoted "replay_trace: records 110, frames put to the meter 7, replies 0\n"
-unfolding countsText labelled decimal decimalWithin
-three-counts = refl
