@@ -3,6 +3,7 @@
 pub mod delivery;
 pub mod refusal;
 
+use std::num::wrapping_add_u8;
 ghost use mathlib.Core.Path.{_≡_};
 ghost use Rattle.frame.specs.Frame.{checksumOf};
 ghost use Rattle.frame.specs.Recognition.{recognised, recognisedBody, exactlyOne};
@@ -20,17 +21,38 @@ pub enum Recognised {
     Neither,
 }
 
-// The sum of the bytes, wrapping at 256.
+// The sum of the bytes, wrapping at 256: four bytes a turn, each place of a turn with a sum of its own, which are added at
+// once where the processor can; then the odd ones, of which there are at most three.
 pub fn checksum(bytes: &[u8]) -> u8
     ensures { λ r. ⌜ r ≡ checksumOf (now (bytes .entry)) ⌝ }
 {
-    let mut sum: u8 = 0;
+    let n = bytes.len();
+    let mut a: u8 = 0;
+    let mut b: u8 = 0;
+    let mut c: u8 = 0;
+    let mut d: u8 = 0;
     let mut i = 0;
-    while i < bytes.len() {
-        sum = std::num::wrapping_add_u8(sum, bytes[i]);
-        i += 1;
+    while 4 <= n - i {
+        a = wrapping_add_u8(a, bytes[i]);
+        b = wrapping_add_u8(b, bytes[i + 1]);
+        c = wrapping_add_u8(c, bytes[i + 2]);
+        d = wrapping_add_u8(d, bytes[i + 3]);
+        i += 4;
     }
-    sum
+    let turns = wrapping_add_u8(wrapping_add_u8(a, b), wrapping_add_u8(c, d));
+    let odd = n - i;
+    if odd == 0 {
+        return turns;
+    }
+    let with_one = wrapping_add_u8(turns, bytes[i]);
+    if odd == 1 {
+        return with_one;
+    }
+    let with_two = wrapping_add_u8(with_one, bytes[i + 1]);
+    if odd == 2 {
+        return with_two;
+    }
+    wrapping_add_u8(with_two, bytes[i + 2])
 }
 
 // What the bytes begin with, given up at the first byte that no frame has there. Where a last byte is there it is looked
