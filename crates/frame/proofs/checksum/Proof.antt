@@ -60,48 +60,6 @@ loop-holds : tie.Need-loop-holds Inv-loop μ-loop
 unfolding total checksumOf
 loop-holds c = search needs
 
-sub-loop : tie.Need-sub-loop Inv-loop μ-loop
-sub-loop c = search needs
-
-shared-slice-read-wrapping-add-u8 : tie.Need-shared-slice-read-wrapping-add-u8 Inv-loop μ-loop
-shared-slice-read-wrapping-add-u8 c = search needs
-
-wrapping-add-u8-requires : tie.Need-wrapping-add-u8-requires Inv-loop μ-loop
-wrapping-add-u8-requires c κs = search needs
-
-add-wrapping-add-u8 : tie.Need-add-wrapping-add-u8 Inv-loop μ-loop
-add-wrapping-add-u8 c = search needs
-
-shared-slice-read-wrapping-add-u8-2 : tie.Need-shared-slice-read-wrapping-add-u8-2 Inv-loop μ-loop
-shared-slice-read-wrapping-add-u8-2 c = search needs
-
-wrapping-add-u8-requires-2 : tie.Need-wrapping-add-u8-requires-2 Inv-loop μ-loop
-wrapping-add-u8-requires-2 c κs = search needs
-
-add-wrapping-add-u8-2 : tie.Need-add-wrapping-add-u8-2 Inv-loop μ-loop
-add-wrapping-add-u8-2 c = search needs
-
-shared-slice-read-wrapping-add-u8-3 : tie.Need-shared-slice-read-wrapping-add-u8-3 Inv-loop μ-loop
-shared-slice-read-wrapping-add-u8-3 c = search needs
-
-wrapping-add-u8-requires-3 : tie.Need-wrapping-add-u8-requires-3 Inv-loop μ-loop
-wrapping-add-u8-requires-3 c κs = search needs
-
-add-wrapping-add-u8-3 : tie.Need-add-wrapping-add-u8-3 Inv-loop μ-loop
-add-wrapping-add-u8-3 c = search needs
-
-shared-slice-read-wrapping-add-u8-4 : tie.Need-shared-slice-read-wrapping-add-u8-4 Inv-loop μ-loop
-shared-slice-read-wrapping-add-u8-4 c = search needs
-
-wrapping-add-u8-requires-4 : tie.Need-wrapping-add-u8-requires-4 Inv-loop μ-loop
-wrapping-add-u8-requires-4 c κs = search needs
-
-add-i : tie.Need-add-i Inv-loop μ-loop
-add-i c = search needs
-
-loop-less : tie.Need-loop-less Inv-loop μ-loop
-loop-less c = search needs
-
 loop-again : tie.Need-loop-again Inv-loop μ-loop
 loop-again c =
     let at-loop = c .before .before .before .before .before .before .before .before .before in
@@ -124,27 +82,9 @@ turns-of t =
 with-odd : (t : tie.After-wrapping-add-u87 Inv-loop μ-loop) (count : ℕ) → length (bytes-of t) - loop-of t .loop .i ≡ count → gone-on (t .wrapping-add-u87 .result) (bytes-of t) (loop-of t .loop .i) count ≡ checksumOf (bytes-of t)
 with-odd t count h = odd-ones (bytes-of t) (loop-of t .loop .i) count _ (omega (arith, loop-of t .loop .inv .0)) (turns-of t)
 
-wrapping-add-u8-requires-5 : tie.Need-wrapping-add-u8-requires-5 Inv-loop μ-loop
-wrapping-add-u8-requires-5 c κs = search needs
-
-wrapping-add-u8-requires-6 : tie.Need-wrapping-add-u8-requires-6 Inv-loop μ-loop
-wrapping-add-u8-requires-6 c κs = search needs
-
-wrapping-add-u8-requires-7 : tie.Need-wrapping-add-u8-requires-7 Inv-loop μ-loop
-wrapping-add-u8-requires-7 c κs = search needs
-
-sub-odd : tie.Need-sub-odd Inv-loop μ-loop
-sub-odd c = search needs
-
 returns : tie.Need-returns Inv-loop μ-loop
 unfolding gone-on
 returns c = with-odd (c .before) 0 (c .if1 .taken)
-
-shared-slice-read-wrapping-add-u8-5 : tie.Need-shared-slice-read-wrapping-add-u8-5 Inv-loop μ-loop
-shared-slice-read-wrapping-add-u8-5 c = search needs
-
-wrapping-add-u8-requires-8 : tie.Need-wrapping-add-u8-requires-8 Inv-loop μ-loop
-wrapping-add-u8-requires-8 c κs = search needs
 
 returns-2 : tie.Need-returns-2 Inv-loop μ-loop
 unfolding gone-on
@@ -154,15 +94,6 @@ returns-2 c =
     let first = first-of (bytes-of t) (loop-of t .loop .i) in
     cc
 
-add-wrapping-add-u8-4 : tie.Need-add-wrapping-add-u8-4 Inv-loop μ-loop
-add-wrapping-add-u8-4 c = search needs
-
-shared-slice-read-wrapping-add-u8-6 : tie.Need-shared-slice-read-wrapping-add-u8-6 Inv-loop μ-loop
-shared-slice-read-wrapping-add-u8-6 c = search needs
-
-wrapping-add-u8-requires-9 : tie.Need-wrapping-add-u8-requires-9 Inv-loop μ-loop
-wrapping-add-u8-requires-9 c κs = search needs
-
 returns-3 : tie.Need-returns-3 Inv-loop μ-loop
 unfolding gone-on
 returns-3 c =
@@ -170,15 +101,6 @@ returns-3 c =
     let law = with-odd t 2 (c .if3 .taken) in
     let first = first-of (bytes-of t) (loop-of t .loop .i) in
     cc
-
-add-wrapping-add-u8-5 : tie.Need-add-wrapping-add-u8-5 Inv-loop μ-loop
-add-wrapping-add-u8-5 c = search needs
-
-shared-slice-read-wrapping-add-u8-7 : tie.Need-shared-slice-read-wrapping-add-u8-7 Inv-loop μ-loop
-shared-slice-read-wrapping-add-u8-7 c = search needs
-
-wrapping-add-u8-requires-10 : tie.Need-wrapping-add-u8-requires-10 Inv-loop μ-loop
-wrapping-add-u8-requires-10 c κs = search needs
 
 returns-4 : tie.Need-returns-4 Inv-loop μ-loop
 unfolding gone-on
@@ -195,34 +117,34 @@ checksum-spec =
     Inv-loop
     μ-loop
     loop-holds
-    sub-loop
-    shared-slice-read-wrapping-add-u8
-    wrapping-add-u8-requires
-    add-wrapping-add-u8
-    shared-slice-read-wrapping-add-u8-2
-    wrapping-add-u8-requires-2
-    add-wrapping-add-u8-2
-    shared-slice-read-wrapping-add-u8-3
-    wrapping-add-u8-requires-3
-    add-wrapping-add-u8-3
-    shared-slice-read-wrapping-add-u8-4
-    wrapping-add-u8-requires-4
-    add-i
-    loop-less
+    (λ c. search needs)
+    (λ c. search needs)
+    (λ c κs. search needs)
+    (λ c. search needs)
+    (λ c. search needs)
+    (λ c κs. search needs)
+    (λ c. search needs)
+    (λ c. search needs)
+    (λ c κs. search needs)
+    (λ c. search needs)
+    (λ c. search needs)
+    (λ c κs. search needs)
+    (λ c. search needs)
+    (λ c. search needs)
     loop-again
-    wrapping-add-u8-requires-5
-    wrapping-add-u8-requires-6
-    wrapping-add-u8-requires-7
-    sub-odd
+    (λ c κs. search needs)
+    (λ c κs. search needs)
+    (λ c κs. search needs)
+    (λ c. search needs)
     returns
-    shared-slice-read-wrapping-add-u8-5
-    wrapping-add-u8-requires-8
+    (λ c. search needs)
+    (λ c κs. search needs)
     returns-2
-    add-wrapping-add-u8-4
-    shared-slice-read-wrapping-add-u8-6
-    wrapping-add-u8-requires-9
+    (λ c. search needs)
+    (λ c. search needs)
+    (λ c κs. search needs)
     returns-3
-    add-wrapping-add-u8-5
-    shared-slice-read-wrapping-add-u8-7
-    wrapping-add-u8-requires-10
+    (λ c. search needs)
+    (λ c. search needs)
+    (λ c κs. search needs)
     returns-4)

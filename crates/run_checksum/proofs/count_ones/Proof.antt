@@ -1,0 +1,29 @@
+-- The invariant: the array has its 521 bytes.
+use Prim.Native.Nat.{_-_}
+use mathlib.Core.Path.{_≡_}
+use borrow.Author.Needs.{needs}
+use lib.ListN.{length}
+use Rattle.run_checksum.proofs.count_ones.Statement.{statement}
+use Rattle.run_checksum.proofs.count_ones.Tie as tie
+
+abbrev Inv-loop : tie.InvT-loop
+Inv-loop n bytes tally₀ start₀ tally start = length bytes ≡ 521
+
+abbrev μ-loop : tie.MeasureT-loop
+μ-loop n bytes tally₀ start₀ tally start = 521 - start
+
+pub count-ones-spec : {M : Type 1} → statement M
+count-ones-spec =
+    tie.close
+    (tie.spec
+    Inv-loop
+    μ-loop
+    (λ c. search needs)
+    (λ c. search needs)
+    (λ c. search needs)
+    (λ c κs. search needs)
+    (λ c κs. search needs)
+    (λ c. search needs)
+    (λ c. search needs)
+    (λ c. search needs)
+    (λ c. search needs))
