@@ -21,25 +21,28 @@ pub enum Recognised {
     Neither,
 }
 
-// The sum of the bytes, wrapping at 256: four bytes a turn, each place of a turn with a sum of its own, which are added at
-// once where the processor can; then the odd ones, of which there are at most three.
+// The sum of the bytes, wrapping at 256: four bytes a turn, with a sum for each of the four places, so that a processor that
+// can adds all four at once; then the odd ones, at most three.
 pub fn checksum(bytes: &[u8]) -> u8
     ensures { λ r. ⌜ r ≡ checksumOf (now (bytes .entry)) ⌝ }
 {
     let n = bytes.len();
-    let mut a: u8 = 0;
-    let mut b: u8 = 0;
-    let mut c: u8 = 0;
-    let mut d: u8 = 0;
+    let mut first: u8 = 0;
+    let mut second: u8 = 0;
+    let mut third: u8 = 0;
+    let mut fourth: u8 = 0;
     let mut i = 0;
     while 4 <= n - i {
-        a = wrapping_add_u8(a, bytes[i]);
-        b = wrapping_add_u8(b, bytes[i + 1]);
-        c = wrapping_add_u8(c, bytes[i + 2]);
-        d = wrapping_add_u8(d, bytes[i + 3]);
+        first = wrapping_add_u8(first, bytes[i]);
+        second = wrapping_add_u8(second, bytes[i + 1]);
+        third = wrapping_add_u8(third, bytes[i + 2]);
+        fourth = wrapping_add_u8(fourth, bytes[i + 3]);
         i += 4;
     }
-    let turns = wrapping_add_u8(wrapping_add_u8(a, b), wrapping_add_u8(c, d));
+    let turns = wrapping_add_u8(
+        wrapping_add_u8(first, second),
+        wrapping_add_u8(third, fourth),
+    );
     let odd = n - i;
     if odd == 0 {
         return turns;

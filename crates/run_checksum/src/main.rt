@@ -2,7 +2,7 @@
 // its first four bytes, and how many slices of that length have the checksum 01 in zeros with a single 01 among them.
 use frame::checksum;
 use libc::STDIN_FILENO;
-use run_text::count::Tally;
+use run_text::count::sum;
 use run_text::write::write;
 use run_text::write::write_bytes;
 use run_text::write::write_number;
@@ -20,16 +20,18 @@ fn checksum_at(bytes: &[u8], start: usize, n: usize) -> u8 {
 }
 
 // How many slices of `n` bytes have the checksum 01 in 260 zeros, 01 and 260 zeros: as many as have the 01 in them.
-fn count_ones(n: usize) -> usize {
+fn slices_with_the_one(n: usize) -> usize {
     let mut bytes = [0u8; 521];
     bytes[260] = 1;
-    let mut tally = Tally { same: 0, differ: 0 };
+    let mut count = 0;
     let mut start = 0;
     while start < bytes.len() {
-        tally = tally.counted(checksum_at(&bytes, start, n) == 1);
+        if checksum_at(&bytes, start, n) == 1 {
+            count = sum(count, 1);
+        }
         start += 1;
     }
-    tally.same
+    count
 }
 
 // Writes the line of each length.
@@ -37,7 +39,7 @@ fn say_lengths(bytes: &[u8]) {
     let mut n = 0;
     while n <= 260 {
         write_number(n, b" bytes, ");
-        write_number(count_ones(n), b" with 01,");
+        write_number(slices_with_the_one(n), b" with 01,");
         let sums = [
             checksum_at(bytes, 0, n),
             checksum_at(bytes, 1, n),

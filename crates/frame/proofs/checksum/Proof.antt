@@ -1,5 +1,5 @@
--- The invariant: the four sums together are the checksum of the bytes passed. One law says what so many bytes more do to a
--- checksum: four of them make a turn, one to three are the odd ones.
+-- The invariant: the four sums together, wrapped, are the checksum of the bytes passed. One law, `turn`, says what so many
+-- bytes more do to a checksum: four of them in each turn of the loop, and then the odd ones, none to three.
 use Prim.Native.Nat.{ℕ, zero, suc, _≤_, _+_, _-_, _%_}
 use mathlib.Core.Path.{_≡_, refl, ap, sym, _∙_}
 use mathlib.Core.List.{List}
@@ -27,11 +27,11 @@ turn bytes i (suc count) h =
     let place : i + suc count ≡ i + count + 1 = omega arith in
     rw (place, checksum-next bytes (i + count) (omega arith), so-far) refl
 
--- The first byte of a turn.
+-- The first byte of a turn is the one at `i`.
 first-of : (bytes : List ℕ) (i : ℕ) → getD bytes (i + 0) 0 ≡ getD bytes i 0
 first-of bytes i = rw add-zero refl
 
--- What was wrapped before it is added to is as good as what was not.
+-- Parts that are wrapped before they are added come to the same as the whole wrapped once.
 wrapped-first : (x y : ℕ) → (x % 256 + y) % 256 ≡ (x + y) % 256
 wrapped-first x y = omega arith
 
@@ -51,10 +51,10 @@ odd-ones : (bytes : List ℕ) (i count sum : ℕ) → i + count ≡ length bytes
 odd-ones bytes i count sum h e = rw e (sym (turn bytes i count (omega arith)) ∙ ap checksumOf (take-all (i + count) bytes (omega arith)))
 
 abbrev Inv-loop : tie.InvT-loop
-Inv-loop bytes n a₀ b₀ c₀ d₀ i₀ a b c d i = (i ≤ length bytes) × (checksumOf (take i bytes) ≡ (a + b + (c + d)) % 256)
+Inv-loop bytes n first₀ second₀ third₀ fourth₀ i₀ first second third fourth i = (i ≤ length bytes) × (checksumOf (take i bytes) ≡ (first + second + (third + fourth)) % 256)
 
 abbrev μ-loop : tie.MeasureT-loop
-μ-loop bytes n a₀ b₀ c₀ d₀ i₀ a b c d i = length bytes - i
+μ-loop bytes n first₀ second₀ third₀ fourth₀ i₀ first second third fourth i = length bytes - i
 
 loop-holds : tie.Need-loop-holds Inv-loop μ-loop
 unfolding total checksumOf
@@ -66,19 +66,21 @@ loop-again c =
     let law = turn-of-four (at-loop .before .before .args .bytes .now) (at-loop .loop .i) _ _ _ _ (search needs) (at-loop .loop .inv .1) in
     (search needs, cc)
 
--- What the four sums come to, and with the odd ones behind it.
+-- Behind the last turn, where the four sums are added: the loop before it, and the bytes.
 abbrev loop-of : tie.After-wrapping-add-u87 Inv-loop μ-loop → tie.At-loop Inv-loop μ-loop
 loop-of t = t .before .before .before .before
 
 abbrev bytes-of : tie.After-wrapping-add-u87 Inv-loop μ-loop → List ℕ
 bytes-of t = loop-of t .before .before .args .bytes .now
 
+-- The four sums come to the checksum of the bytes of all turns.
 turns-of : (t : tie.After-wrapping-add-u87 Inv-loop μ-loop) → t .wrapping-add-u87 .result ≡ checksumOf (take (loop-of t .loop .i) (bytes-of t))
 turns-of t =
     let at = loop-of t .loop in
-    let sums = wrapped-both (at .a + at .b) (at .c + at .d) in
+    let sums = wrapped-both (at .first + at .second) (at .third + at .fourth) in
     cc
 
+-- Gone on with the odd ones they come to the checksum.
 with-odd : (t : tie.After-wrapping-add-u87 Inv-loop μ-loop) (count : ℕ) → length (bytes-of t) - loop-of t .loop .i ≡ count → gone-on (t .wrapping-add-u87 .result) (bytes-of t) (loop-of t .loop .i) count ≡ checksumOf (bytes-of t)
 with-odd t count h = odd-ones (bytes-of t) (loop-of t .loop .i) count _ (omega (arith, loop-of t .loop .inv .0)) (turns-of t)
 

@@ -3,17 +3,17 @@ use Prim.Native.Nat.{_-_}
 use mathlib.Core.Path.{_≡_}
 use borrow.Author.Needs.{needs}
 use lib.ListN.{length}
-use Rattle.run_checksum.proofs.count_ones.Statement.{statement}
-use Rattle.run_checksum.proofs.count_ones.Tie as tie
+use Rattle.run_checksum.proofs.slices_with_the_one.Statement.{statement}
+use Rattle.run_checksum.proofs.slices_with_the_one.Tie as tie
 
 abbrev Inv-loop : tie.InvT-loop
-Inv-loop n bytes tally₀ start₀ tally start = length bytes ≡ 521
+Inv-loop n bytes count₀ start₀ count start = length bytes ≡ 521
 
 abbrev μ-loop : tie.MeasureT-loop
-μ-loop n bytes tally₀ start₀ tally start = 521 - start
+μ-loop n bytes count₀ start₀ count start = 521 - start
 
-pub count-ones-spec : {M : Type 1} → statement M
-count-ones-spec =
+pub slices-with-the-one-spec : {M : Type 1} → statement M
+slices-with-the-one-spec =
     tie.close
     (tie.spec
     Inv-loop
