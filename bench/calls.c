@@ -1,8 +1,6 @@
 /* Calls of both ends made by chance: meters mostly within their ranges, requests mostly allowed, frames mostly good, and
    each of them wrong in one thing often enough. */
-#define _DEFAULT_SOURCE /* for timegm */
 #include <string.h>
-#include <time.h>
 
 #include "calls.h"
 #include "chance.h"
@@ -37,16 +35,11 @@ size_t seal(const struct parts *parts, uint8_t *bytes)
 
 /* ---- Digits and addresses ---- */
 
-/* The two digits of a number. */
-static uint8_t two_digits(size_t number)
-{
-    return (uint8_t)(number / 10 * 16 + number % 10);
-}
-
 /* Two digits of a number from least to most. */
 static uint8_t digits_within(size_t least, size_t most)
 {
-    return two_digits(least + below(most - least + 1));
+    size_t number = least + below(most - least + 1);
+    return (uint8_t)(number / 10 * 16 + number % 10);
 }
 
 /* The same, at times next to the bounds, and at times no digits. */
@@ -191,33 +184,15 @@ static uint32_t identifier_by_chance(size_t registers_of_ten)
     return energy_by_chance();
 }
 
-/* A weekday and a date of the years 2000 to 2099, by the C library's calendar. At times the month or the day lies next to
-   its bounds, with the weekday of the date that it runs over into; at times the weekday is the next or the one before, or two
-   digits are others. */
-static void put_date(uint8_t *value)
-{
-    struct tm date = {0};
-    date.tm_year = 100 + (int)below(100);
-    date.tm_mon = once_in(4) ? 1 : (int)below(14) - 1;
-    date.tm_mday = once_in(3) ? 28 + (int)below(5) : (int)below(29);
-    value[1] = two_digits((size_t)date.tm_mday);
-    value[2] = two_digits((size_t)(date.tm_mon + 1));
-    value[3] = two_digits((size_t)(date.tm_year - 100));
-    timegm(&date);
-    value[0] = two_digits((size_t)date.tm_wday);
-    if (once_in(12))
-        value[0] = two_digits((size_t)(date.tm_wday + (once_in(2) ? 1 : 6)) % 7);
-    if (once_in(12))
-        value[below(4)] = digits_within(0, 99);
-}
-
 /* A value for an identifier, mostly one that may be written; returns its length. */
 static size_t put_value(uint32_t identifier, uint8_t *value)
 {
     struct item item = item_of(identifier);
     put_digits(value, item.length);
     if (item.kind == DATE) {
-        put_date(value);
+        value[0] = digits_about(0, 6);
+        value[1] = digits_about(1, 31);
+        value[2] = digits_about(1, 12);
     } else if (item.kind == TIME) {
         value[0] = digits_about(0, 59);
         value[1] = digits_about(0, 59);

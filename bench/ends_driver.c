@@ -382,13 +382,6 @@ static void make_write_time(struct call *call)
     put_frame(call, WRITE_DATA, own_address, data, sizeof data);
 }
 
-/* 2026-12-31, a Thursday: all other months of the year stand before it. */
-static void make_write_date(struct call *call)
-{
-    static const uint8_t data[] = {1, 1, 0, 4, 0, 0, 0, 0, 1, 2, 3, 4, 0x04, 0x31, 0x12, 0x26};
-    put_frame(call, WRITE_DATA, own_address, data, sizeof data);
-}
-
 static void make_foreign(struct call *call)
 {
     static const uint8_t other_address[6] = {0x09, 0x09, 0x09, 0x09, 0x09, 0x09};
@@ -448,7 +441,6 @@ static const struct named_case cases[] = {
     {"read-20-bytes", ANSWER, make_read_20, 0, 36},
     {"read-52-bytes", ANSWER, make_read_52, 0, 68},
     {"write-time", ANSWER, make_write_time, 0, 12},
-    {"write-date", ANSWER, make_write_date, 0, 12},
     {"foreign", ANSWER, make_foreign, NOT_FOR_THIS_METER, 0},
     {"wrong-checksum", ANSWER, make_wrong_sum, NOT_ONE_FRAME, 0},
     {"pulse", PULSE, make_pulse, 0, 0},

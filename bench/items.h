@@ -3,7 +3,6 @@
 #ifndef ITEMS_H
 #define ITEMS_H
 
-#include "calendar.h"
 #include "ends.h"
 #include "frame.h"
 #include "table.h"
@@ -75,11 +74,6 @@ static inline bool is_within(unsigned least, unsigned most, uint8_t byte)
     return least <= digits_of(byte) && digits_of(byte) <= most;
 }
 
-static inline bool is_weekday_and_date(const uint8_t *value)
-{
-    return falls_on(digits_of(value[3]), digits_of(value[2]), digits_of(value[1]), digits_of(value[0]));
-}
-
 static inline bool is_settlement_day(const uint8_t *value)
 {
     return (value[0] == 0x99 && value[1] == 0x99) || (is_within(0, 23, value[0]) && is_within(1, 28, value[1]));
@@ -90,7 +84,7 @@ static inline bool is_in_range(enum kind kind, const uint8_t *value)
 {
     switch (kind) {
     case DATE:
-        return is_weekday_and_date(value);
+        return is_within(0, 6, value[0]) && is_within(1, 31, value[1]) && is_within(1, 12, value[2]);
     case TIME:
         return is_within(0, 59, value[0]) && is_within(0, 59, value[1]) && is_within(0, 23, value[2]);
     case MINUTES:

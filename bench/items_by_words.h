@@ -3,7 +3,6 @@
 #ifndef ITEMS_BY_WORDS_H
 #define ITEMS_BY_WORDS_H
 
-#include "calendar.h"
 #include "ends.h"
 #include "frame.h"
 #include "table.h"
@@ -125,12 +124,6 @@ static inline bool is_byte_within(uint64_t value, unsigned place, unsigned least
     return (value >> 8 * place & 0xFF) - least <= most - least;
 }
 
-static inline bool is_weekday_and_date(uint64_t value)
-{
-    uint64_t numbers = value - 6 * (value >> 4 & 0x0F0F0F0F); /* of the two digits of each byte */
-    return falls_on(numbers >> 24 & 0xFF, numbers >> 16 & 0xFF, numbers >> 8 & 0xFF, numbers & 0xFF);
-}
-
 static inline bool is_settlement_day(uint64_t value)
 {
     return value == 0x9999 || (is_byte_within(value, 0, 0, 0x23) && is_byte_within(value, 1, 1, 0x28));
@@ -141,7 +134,7 @@ static inline bool is_in_range(enum kind kind, uint64_t value)
 {
     switch (kind) {
     case DATE:
-        return is_weekday_and_date(value);
+        return is_byte_within(value, 0, 0, 0x06) && is_byte_within(value, 1, 1, 0x31) && is_byte_within(value, 2, 1, 0x12);
     case TIME:
         return is_byte_within(value, 0, 0, 0x59) && is_byte_within(value, 1, 0, 0x59) && is_byte_within(value, 2, 0, 0x23);
     case MINUTES:

@@ -1,5 +1,5 @@
 #!/usr/bin/env python3
-"""A second meter and reader's end, written from documents 01 and 02 and the standard alone, that work out what the program
+"""A second meter and reader's end, written from document 01 and the standard alone, that work out what the program
 run_script must write.
 
     python3 tests/model.py script > crates/run_script/stdin
@@ -348,7 +348,7 @@ def print_output():
 
 # ---- the model against printed frames --------------------------------------------------------------------------------
 def selftest():
-    """Document 01's cases A to E and the manual's reply of 15.82 kWh, byte for byte as printed; document 02's 31 February."""
+    """Document 01's cases A to E and the manual's reply of 15.82 kWh, byte for byte as printed."""
     awake = [0xFE] * 4
     one = [1, 0, 0, 0, 0, 0]
     read = reader_model.Request(0x11, one, 0x00010000, 0, [0] * 3, [0] * 4, [])
@@ -380,11 +380,6 @@ def selftest():
     assert reader_model.judge(period, E_ON, 196) == ("value", [])
     # The manual's reply: 1582 hundredths.
     assert reader_model.judge(read, MANUAL_REPLY, 196) == ("value", packed(1582, 4))
-    # 31 February: refused by both ends; a fresh meter's date could be written.
-    none = period._replace(identifier=0x04000101, value=[0x02, 0x31, 0x02, 0x26])
-    assert reader_model.build(none, 66) == reader_model.judge(none, E_ON, 196) == ("refused", 5)
-    assert listed(meter.answer(reader_model.request_frame(none), 212)) == "000000000001 D4 01"
-    assert in_range(0x04000101, Meter(one).registers[0x04000101])
     # Both ends list the same items, at the same lengths.
     kinds = [0x00000000, 0x00010000, 0x00020000, 0x00030000, 0x04000000, 0x04010000, 0x05000000, 0xFFFF0000]
     for identifier in (kind | low for kind in kinds for low in range(0x10000)):

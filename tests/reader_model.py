@@ -1,4 +1,4 @@
-"""A second reader's end, written from documents 01 and 02 alone: requests, the judging of replies, and an exchange with a
+"""A second reader's end, written from document 01 alone: requests, the judging of replies, and an exchange with a
 meter. Only imported.
 
 An answer is a pair: ("refused", number), ("request", bytes), ("value", bytes) or ("error", byte).

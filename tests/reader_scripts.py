@@ -125,10 +125,10 @@ def builder():
     build_write(level=5)
     build_write(level=9, password=[0xFF, 0xAA, 0x9A], operator=[0xFF, 0xEE, 0xDD, 0xCC])
     build_write(NUMBER, NINES, address=ONE, level=9, password=[0xCC, 0xCD, 0xCE], operator=[0xFE, 0x68, 0x16, 0x00])
-    title("build: the ends of the ranges, and 29 February of 2000, 2004 and 2096")
-    for identifier, value in ((DATE, [6, 1, 1, 0]), (DATE, [4, 0x31, 0x12, 0x99]), (DATE, [2, 0x29, 2, 0]), (DATE, [0, 0x29, 2, 4]),
-                              (DATE, [3, 0x29, 2, 0x96]), (TIME, [0, 0, 0]), (TIME, [0x59, 0x59, 0x23]), (PERIOD, [0x01]),
-                              (PERIOD, [0x60]), (SLIP, [0x60]), (DAY1, [0x23, 0x01]), (DAY1, [0x00, 0x28])):
+    title("build: the ends of the ranges; the calendar is not asked")
+    for identifier, value in ((DATE, [0, 1, 1, 0]), (DATE, [6, 0x31, 0x12, 0x99]), (DATE, [0, 0x31, 0x02, 0x26]), (TIME, [0, 0, 0]),
+                              (TIME, [0x59, 0x59, 0x23]), (PERIOD, [0x01]), (PERIOD, [0x60]), (SLIP, [0x60]), (DAY1, [0x23, 0x01]),
+                              (DAY1, [0x00, 0x28])):
         build_write(identifier, value)
 
     title("build, 1: memory of 65 and of 0, for a read, a write and read address; 66 will do")
@@ -175,13 +175,12 @@ def builder():
                                (NUMBER, 39)):
         build_write(identifier, [0x01] * length)
     title("build, 5, the content alone: a half byte above 9, high and low, in every item")
-    for identifier, value in ((DATE, [0x03, 0x1F, 0x03, 0x26]), (DATE, [0x03, 0x02, 0x0C, 0x26]), (DATE, [0x02, 0x02, 0x03, 0xA6]),
+    for identifier, value in ((DATE, [0x01, 0x1F, 0x03, 0x26]), (DATE, [0x01, 0x02, 0x0C, 0x26]), (DATE, [0x01, 0x02, 0x03, 0xA6]),
                               (TIME, [0x30, 0x15, 0x0A]), (PERIOD, [0x3C]), (SLIP, [0xA0]), (NUMBER, [0x12, 0x34, 0xF6, 0x78, 0x90, 0x99]),
                               (DAY1, [0x0A, 0x01]), (DAY2, [0x23, 0x0F]), (DAY3, [0x99, 0x9A])):
         build_write(identifier, value)
     title("build, 5, the content alone: outside the range")
-    for value in ([5, 0, 1, 0], [2, 0x32, 1, 0], [3, 1, 0, 0], [1, 1, 0x13, 0], [3, 0x30, 2, 0], [4, 0x29, 2, 1], [5, 0x31, 4, 0x26],
-                  [7, 2, 1, 0], [5, 1, 1, 0], [5, 0x31, 0x12, 0x99]):
+    for value in ([7, 1, 1, 0], [6, 0, 1, 0], [6, 0x32, 1, 0], [6, 1, 0, 0], [6, 1, 0x13, 0]):
         build_write(DATE, value)
     for value in ([0x60, 0, 0], [0, 0x60, 0], [0, 0, 0x24]):
         build_write(TIME, value)
@@ -226,8 +225,8 @@ def judging():
     ask_read(ADDRESS)
     reply(0x91, di(ADDRESS) + ONE)
     reply(0x91, di(ADDRESS) + NINES)
-    title("judge: ranges are not asked of a reply: 31 February, hour 99, period 00, settlement day 0000")
-    for identifier, value in ((DATE, [0x09, 0x31, 0x02, 0x26]), (TIME, [0x99, 0x99, 0x99]), (PERIOD, [0x00]), (DAY1, [0x00, 0x00])):
+    title("judge: ranges are not asked of a reply: month 13, hour 99, period 00, settlement day 0000")
+    for identifier, value in ((DATE, [0x01, 0x02, 0x13, 0x26]), (TIME, [0x99, 0x99, 0x99]), (PERIOD, [0x00]), (DAY1, [0x00, 0x00])):
         ask_read(identifier)
         reply(0x91, di(identifier) + value)
     title("judge: what a read does not use is ignored")
@@ -289,13 +288,12 @@ def judging():
     reply(0x91, single, FULL[:5] + [0x1A])
     ask_write(address=low(5))
     reply(0x94, [])
-    title("judge, 5 alone: identifier, writable, level, length, half byte, range, 31 February, weekday")
+    title("judge, 5 alone: identifier, writable, level, length, half byte, range")
     ask_read(0x0001FFFF)
     reply(0x91, di(0x0001FFFF) + [0] * 4)
     ask_read(0x00010500)
     reply(0xD1, [0x02])
-    for parts in ({"identifier": TOTAL, "value": [0] * 4}, {"level": 0x0A}, {"value": []}, {"value": [0x3C]}, {"value": [0x61]},
-                  {"identifier": DATE, "value": [2, 0x31, 2, 0x26]}, {"identifier": DATE, "value": [0, 2, 3, 0x26]}):
+    for parts in ({"identifier": TOTAL, "value": [0] * 4}, {"level": 0x0A}, {"value": []}, {"value": [0x3C]}, {"value": [0x61]}):
         ask_write(**parts)
         reply(0x94, [])
     title("judge, 5 before 2: a request not allowed, and no frame")

@@ -4,8 +4,6 @@ Each record is written together with the call that it stands for, made by hand; 
 and the replies go on the line behind their requests, as a head hears them. The blocks of 8,192 bytes in which a program
 reads the trace end inside records of every kind that has a body, and between records.
 """
-import datetime
-
 from line_model import SILENCE, WAKE_UP, Maker
 from printed import manual_frames
 from wire import REGISTERS, di, frame, frame_around, head, packed, parse
@@ -111,10 +109,8 @@ def another(day):
 def value_of(day, identifier):
     """A value that an item may be written with."""
     some = day.random.randrange
-    # Some days, months of 28 and years of 365 days after the first date that can be written; the last of them are in 2099.
-    date = datetime.date(2000, 1, 1) + datetime.timedelta(some(7) + some(1, 32) + 28 * some(1, 13) + 365 * some(100))
     numbers = {
-        0x04000101: [date.isoweekday() % 7, date.day, date.month, date.year - 2000],
+        0x04000101: [some(7), some(1, 32), some(1, 13), some(100)],
         0x04000102: [some(60), some(60), some(24)],
         0x04000103: [some(1, 61)],
         0x04000104: [some(1, 61)],

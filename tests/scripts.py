@@ -1,6 +1,6 @@
 """The calls of the script that put frames to the meter, and the functions that write them. Only imported."""
 from printed import manual_frames
-from wire import REGISTERS, di, frame, hexed, packed, weekday_of
+from wire import REGISTERS, di, frame, hexed
 
 ONE = [0x01, 0, 0, 0, 0, 0]
 FULL = [0x12, 0x34, 0x56, 0x78, 0x90, 0x12]
@@ -230,34 +230,11 @@ def edges():
 
     tries("period: 00, 01, 60, 61, 3C, 99, 0A, A0", 0x04000103, [[v] for v in (0x00, 0x01, 0x60, 0x61, 0x3C, 0x99, 0x0A, 0xA0)])
     tries("slip: 00, 01, 60, 61, 3C", 0x04000104, [[v] for v in (0x00, 0x01, 0x60, 0x61, 0x3C)])
-    tries("date: 00-01-01; months 00 and 13, days 00 and 32, year 9A, day 1F, month 0C, with the weekdays that they would have; "
-          "weekday 0A; all at once",
+    tries("date: 00-01-01, months 00 and 13, days 00 and 32, weekdays 06 and 07, years 99 and 9A",
           0x04000101,
-          [[6, 1, 1, 0], [3, 1, 0, 0], [1, 1, 0x13, 0], [5, 0, 1, 0], [2, 0x32, 1, 0], [5, 1, 1, 0x9A], [2, 0x1F, 1, 0],
-           [5, 1, 0x0C, 0], [0x0A, 1, 1, 0], [7, 0x32, 0x13, 0x9A]])
-    tries("date: 00 and 07 on a Sunday; 00-01-01 with 2100's weekday, one less, and with 13; 99-12-31 with its own and 1999's, one more",
-          0x04000101,
-          [[0, 2, 1, 0], [7, 2, 1, 0], [5, 1, 1, 0], [0x13, 1, 1, 0], [4, 0x31, 0x12, 0x99], [5, 0x31, 0x12, 0x99]])
-    tries("date: 29 and 30 February and 1 March 2000, 28 and 29 February 2001, 29 February 2004 and 2096", 0x04000101,
-          [[2, 0x29, 2, 0], [3, 0x30, 2, 0], [3, 1, 3, 0], [3, 0x28, 2, 1], [4, 0x29, 2, 1], [0, 0x29, 2, 4], [3, 0x29, 2, 0x96]])
-    title("date: the 30th and the 31st of every month of 2026, with the weekdays that they would have; read after a short month")
-    fresh()
-    for month in range(1, 13):
-        for day in (30, 31):
-            weekday = (weekday_of(26, month, 1) + day - 1) % 7
-            write(0x04000101, [weekday] + packed(day, 1) + packed(month, 1) + [0x26])
-        if weekday_of(26, month, 31) is None:
-            read(0x04000101)
-    title("31 February with weekday 09, put into the registers, is kept and read, without 16; it cannot be written; a date mends it")
-    fresh()
-    for place, byte in enumerate((0x09, 0x31, 0x02)):
-        print("register %d %02X" % (place, byte))
-    print("settle")
-    write(0x04000103, [0x30])
-    write(0x04000101, [0x09, 0x31, 0x02, 0x00])
-    read(0x04000101)
-    write(0x04000101, [0x02, 0x29, 0x02, 0x00])
-    read(0x04000101)
+          [[6, 1, 1, 0], [6, 1, 0, 0], [6, 1, 0x13, 0], [6, 0, 1, 0], [6, 0x32, 1, 0], [0, 1, 1, 0], [7, 1, 1, 0],
+           [6, 1, 1, 0x99], [6, 1, 1, 0x9A], [7, 0x32, 0x13, 0x9A], [0x0A, 1, 1, 0], [6, 0x1F, 1, 0], [6, 1, 0x0C, 0]])
+    tries("date: 31 in every month", 0x04000101, [[0, 0x31, m, 0x26] for m in (1, 2, 3, 4, 5, 6, 7, 8, 9, 0x10, 0x11, 0x12)])
     tries("time: 23:59:59, 24 hours, 60 minutes, 60 seconds, a half byte", 0x04000102,
           [[0x59, 0x59, 0x23], [0, 0, 0x24], [0, 0x60, 0], [0x60, 0, 0], [0, 0, 0], [0x0A, 0, 0], [0, 0, 0x1A]])
     tries("meter number: any twelve digits", 0x04000402, [[0x99] * 6, [0] * 6, [0x12] * 5 + [0xA0], [0x12] * 6, [0xA2] + [0x12] * 5])
@@ -268,7 +245,7 @@ def edges():
                [0x00, 0x01], [0x9A, 0x99], [0x99, 0xA9], [0x1A, 0x01]])
     title("every register holds its own bytes")
     fresh()
-    for identifier, value in ((0x04000101, [1, 4, 3, 2]), (0x04000102, [5, 6, 7]), (0x04000103, [8]), (0x04000104, [9]),
+    for identifier, value in ((0x04000101, [1, 2, 3, 4]), (0x04000102, [5, 6, 7]), (0x04000103, [8]), (0x04000104, [9]),
                               (0x04000402, [0x10, 0x11, 0x12, 0x13, 0x14, 0x15]), (0x04000B01, [0x16, 0x17]), (0x04000B02, [0x18, 0x19]),
                               (0x04000B03, [0x20, 0x21])):
         write(identifier, value, operator=[value[0]] * 4)

@@ -16,7 +16,6 @@ sys.dont_write_bytecode = True  # no compiled copies beside the sources
 
 import checksum_model
 import command
-import date_model
 import line_model
 import line_vectors
 import list_model
@@ -25,8 +24,7 @@ import receiver_model
 import replay_block_model
 import replay_model
 
-GENERATORS = (
-    model, line_model, line_vectors, receiver_model, checksum_model, date_model, list_model, replay_model, replay_block_model)
+GENERATORS = (model, line_model, line_vectors, receiver_model, checksum_model, list_model, replay_model, replay_block_model)
 
 
 def files():

@@ -1,5 +1,4 @@
-"""Frames, lines of the listing, and the table of items, as document 01 gives them, with document 02's dates. Only imported."""
-import datetime
+"""Frames, lines of the listing, and the table of items, as document 01 gives them. Only imported."""
 
 
 # ---- frames ----------------------------------------------------------------------------------------------------------
@@ -102,20 +101,12 @@ def item_length(identifier):
     return None
 
 
-def weekday_of(year, month, day):
-    """The weekday of a date of the years 2000 to 2099, 0 for Sunday, by Python's calendar; None if there is no such date."""
-    try:
-        return datetime.date(2000 + year, month, day).isoweekday() % 7
-    except ValueError:
-        return None
-
-
 def in_range(identifier, v):
-    """The ranges of a written value whose half bytes are all decimal: document 01's, and of a date document 02's, W3."""
+    """Document 01's ranges of a written value whose half bytes are all decimal."""
     n = [number(b) for b in v]
     if identifier == 0x04000101:
-        weekday, day, month, year = n
-        return weekday == weekday_of(year, month, day)
+        weekday, day, month, _year = n
+        return 1 <= month <= 12 and 1 <= day <= 31 and weekday <= 6
     if identifier == 0x04000102:
         second, minute, hour = n
         return hour <= 23 and minute <= 59 and second <= 59

@@ -1,9 +1,8 @@
--- Document 01, "Written content", with the dates of document 02, W3: of a writable item and of its length, decimal over the whole value, then the
--- ranges. Values stand low byte first.
+-- Document 01, "Written content": of a writable item and of its length, decimal over the whole value, then the ranges. Values stand low byte
+-- first.
 use Rattle.std.specs.Prelude.{ℕ, List, Bool, true, false, ◌&&◌, ◌||◌, length, get_or, eqb}
 use Rattle.laws.specs.Test.{pick}
 use Rattle.item_range.specs.Range.{within}
-use Rattle.item_calendar.specs.Calendar.{on, falls_on}
 use Rattle.item_decimal.specs.Decimal.{first_bad, digits}
 use Rattle.item_decimal.specs.declared.Scan.{Scan}
 use Rattle.item_decimal.specs.declared.Scan.TheVariants.{AllDecimal, BadAt}
@@ -28,9 +27,9 @@ three_within value first second third =
     within first.least first.most (digits_at value 0)
     && (within second.least second.most (digits_at value 1) && within third.least third.most (digits_at value 2))
 
--- WW DD MM YY: a date, and its weekday.
+-- WW DD MM YY: WW 00..06, DD 01..31, MM 01..12.
 unfoldable pub date_in_range : List ℕ → Bool
-date_in_range value = falls_on (on (digits_at value 3) (digits_at value 2) (digits_at value 1)) (digits_at value 0)
+date_in_range value = three_within value (bounds 0 6) (bounds 1 31) (bounds 1 12)
 
 -- ss mm hh: ss and mm 00..59, hh 00..23.
 unfoldable pub time_in_range : List ℕ → Bool

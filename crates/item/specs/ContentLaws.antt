@@ -1,5 +1,5 @@
 -- A value may be written exactly where the item is writable, the length is the item's, every half byte is 0 to 9 and document 01's ranges
--- hold, that of a date with document 02's W3.
+-- hold.
 use Rattle.std.specs.Prelude.{ℕ, ◌≤◌, ◌≡◌, List, true, false, ◌&&◌, ◌||◌, ◌↔◌, length, eqb}
 use Rattle.std.proofs.Math.Path.{refl}
 use Rattle.std.proofs.Common.{ap, arith, eqb-true, eq-eqb}
@@ -8,9 +8,6 @@ use Rattle.std.proofs.lemmas.Bool.{false≢true}
 use Rattle.laws.specs.TestLaws.{picked_first}
 use Rattle.item_range.specs.Range.{within}
 use Rattle.item_range.specs.RangeLaws.{within-iff}
-use Rattle.item_calendar.specs.Calendar.{on}
-use Rattle.item_calendar.specs.CalendarWords.{IsDate, Weekday}
-use Rattle.item_calendar.specs.WeekdayLaws.{weekday-date, weekday-words}
 use Rattle.item_decimal.specs.Decimal.{Decimal, first_bad}
 use Rattle.item_decimal.specs.DecimalLaws.{scan-decimal, decimal-scan}
 use Rattle.item.specs.Content.{digits_at, three_within, date_in_range, time_in_range, minutes_in_range, not_set, settlement_day_in_range, in_range, after_scan, content_of, content_is_allowed}
@@ -21,10 +18,13 @@ use Rattle.item.specs.declared.table.Kind.TheVariants.{Energy, Date, Time, Deman
 use Rattle.item.specs.declared.table.Item.{Item}
 use Rattle.item.specs.declared.content.Content.TheVariants.{Allowed}
 
--- MM 01..12, DD 01 to the month's length, of a year 2000 to 2099; WW the weekday of that date.
+-- WW 00..06, DD 01..31, MM 01..12.
 pub record DateRange (value : List ℕ) : Type 0 where
-  pub date : IsDate (on (digits_at value 3) (digits_at value 2) (digits_at value 1))
-  pub weekday : Weekday (on (digits_at value 3) (digits_at value 2) (digits_at value 1)) (digits_at value 0)
+  pub weekday : digits_at value 0 ≤ 6
+  pub day-least : 1 ≤ digits_at value 1
+  pub day-most : digits_at value 1 ≤ 31
+  pub month_least : 1 ≤ digits_at value 2
+  pub month_most : digits_at value 2 ≤ 12
 
 -- ss and mm 00..59, hh 00..23.
 pub record TimeRange (value : List ℕ) : Type 0 where
@@ -56,8 +56,8 @@ Range (SettlementDay n) value = SettlementDayRange value
 -- Tests of values: each holds exactly where the value is in its range.
 module _ (value : List ℕ) where
   date-range : date_in_range value ≡ true ↔ DateRange value
-  unfolding date_in_range
-  date-range = (λ h. let w = (weekday-words _ _).0 h in record { date = weekday-date w; weekday = w }, λ r. (weekday-words _ _).1 r.weekday)
+  unfolding date_in_range three_within
+  date-range = simp (and-eq-true_iff, within-iff) (omega arith)
 
   time-range : time_in_range value ≡ true ↔ TimeRange value
   unfolding time_in_range three_within
@@ -71,17 +71,17 @@ module _ (value : List ℕ) where
   unfolding settlement_day_in_range not_set
   settlement_day_range = (from-test (not_set value) refl, to_test)
     where
-      set : Bool
-      set = within 0 23 (digits_at value 0) && within 1 28 (digits_at value 1)
+      on : Bool
+      on = within 0 23 (digits_at value 0) && within 1 28 (digits_at value 1)
 
-      from-test : (t : Bool) → not_set value ≡ t → (t || set) ≡ true → SettlementDayRange value
+      from-test : (t : Bool) → not_set value ≡ t → (t || on) ≡ true → SettlementDayRange value
       from-test true e h = let both = simp and-eq-true_iff at e in unset (eqb-true _ _ both.0) (eqb-true _ _ both.1)
       from-test false e h = let both = simp (and-eq-true_iff, within-iff) at h in on_day both.0.1 both.1.0 both.1.1
 
-      to_test : SettlementDayRange value → (not_set value || set) ≡ true
+      to_test : SettlementDayRange value → (not_set value || on) ≡ true
       to_test (unset a b) = rw (eq-eqb _ _ a, eq-eqb _ _ b)
       to_test (on_day a b c) =
-          let holds : set ≡ true = simp (and-eq-true_iff, within-iff) (omega arith) in
+          let holds : on ≡ true = simp (and-eq-true_iff, within-iff) (omega arith) in
           rw holds (or-true (not_set value))
 
   in_range_lem : (kind : Kind) → in_range kind value ≡ true ↔ Range kind value

@@ -2,11 +2,10 @@
 use Rattle.std.specs.Prelude.{◌≡◌, refl, [], ◌∷◌}
 use Rattle.item_decimal.specs.Decimal.{is_decimal, first_bad_from, first_bad, digits}
 use Rattle.item_range.specs.Range.{within}
-use Rattle.item_calendar.specs.Calendar.{is_leap, has_thirty_days, month_length, is_date, days_of_months, day_number, weekday_of, falls_on}
 use Rattle.item.specs.Table.{writable_item}
-use Rattle.item.specs.Content.{digits_at, date_in_range, minutes_in_range, not_set, settlement_day_in_range, in_range, content_of}
+use Rattle.item.specs.Content.{digits_at, three_within, date_in_range, minutes_in_range, not_set, settlement_day_in_range, in_range, content_of}
 use Rattle.item.specs.declared.table.Kind.TheVariants.{Date, DemandPeriod, SettlementDay}
-use Rattle.item.specs.declared.content.Content.TheVariants.{Allowed, NotDecimal, OutOfRange}
+use Rattle.item.specs.declared.content.Content.TheVariants.{NotDecimal, OutOfRange}
 
 -- 61 minutes are out of their range, and have no half byte above 9.
 sixty_one : content_of (writable_item DemandPeriod 1) (0x61 ∷ []) ≡ OutOfRange
@@ -20,19 +19,10 @@ sixty_binary = refl
 
 -- A half byte above 9 in the last byte is found though the first byte's range is broken too.
 decimal-first : content_of (writable_item Date 4) (0x07 ∷ 0x01 ∷ 0x01 ∷ 0x0A ∷ []) ≡ NotDecimal 3
-unfolding content_of first_bad first_bad_from is_decimal
+unfolding content_of first_bad first_bad_from is_decimal in_range date_in_range three_within digits_at digits within
 decimal-first = refl
 
 -- Of a settlement day, 99 with 00 is neither a day and an hour nor the 9999 that says not set.
 half_set : content_of (writable_item (SettlementDay 1) 2) (0x00 ∷ 0x99 ∷ []) ≡ OutOfRange
 unfolding content_of first_bad first_bad_from is_decimal in_range settlement_day_in_range not_set digits_at digits within
 half_set = refl
-
--- WW DD MM YY: Wednesday, 18 November 2026 may be written, 31 February with the weekday that it would have may not.
-wednesday : content_of (writable_item Date 4) (0x03 ∷ 0x18 ∷ 0x11 ∷ 0x26 ∷ []) ≡ Allowed
-unfolding content_of first_bad first_bad_from is_decimal in_range date_in_range digits_at digits falls_on is_date month_length is_leap has_thirty_days within weekday_of day_number days_of_months
-wednesday = refl
-
-no_february : content_of (writable_item Date 4) (0x02 ∷ 0x31 ∷ 0x02 ∷ 0x26 ∷ []) ≡ OutOfRange
-unfolding content_of first_bad first_bad_from is_decimal in_range date_in_range digits_at digits falls_on is_date month_length is_leap within
-no_february = refl

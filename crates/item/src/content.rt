@@ -1,10 +1,8 @@
-// The content of a written value: document 01, "Written content", with the dates of document 02, W3. A value stands low byte
-// first.
+// The content of a written value: document 01, "Written content". A value stands low byte first.
 ghost use Rattle.std.specs.Prelude.{◌≡◌};
 ghost use Rattle.item.specs.Content.{digits_at, three_within, date_in_range, time_in_range, minutes_in_range, settlement_day_in_range, in_range, content_of};
 
 use crate::table::{Item, Kind};
-use item_calendar::{Date, falls_on};
 use item_decimal::{Scan, digits_of, first_bad};
 use item_range::is_within;
 
@@ -47,16 +45,16 @@ fn three_within(value: &[u8], first: Bounds, second: Bounds, third: Bounds) -> b
             & is_within(third.least, third.most, digits_at(value, 2)))
 }
 
-// WW DD MM YY: a date, and its weekday.
+// WW DD MM YY.
 fn date_in_range(value: &[u8]) -> bool
     ensures { result ≡ date_in_range value.now }
 {
-    let date = Date {
-        year: digits_at(value, 3),
-        month: digits_at(value, 2),
-        day: digits_at(value, 1),
-    };
-    falls_on(date, digits_at(value, 0))
+    three_within(
+        value,
+        Bounds { least: 0, most: 6 },
+        Bounds { least: 1, most: 31 },
+        Bounds { least: 1, most: 12 },
+    )
 }
 
 // ss mm hh.

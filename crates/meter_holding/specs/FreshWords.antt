@@ -1,11 +1,6 @@
 -- Document 01: what a fresh meter holds for each item of the table that is no reading, in its own figures, low byte first.
 use Rattle.std.specs.Prelude.{ℕ, ◌≡◌, refl, List, [], ◌∷◌, replicate}
-use Rattle.item_decimal.specs.Decimal.{digits}
-use Rattle.item_calendar.specs.CalendarWords.{first}
-use Rattle.item_calendar.specs.WeekdayLaws.{weekday-date}
 use Rattle.item.specs.Table.{item_of, found, other_rows}
-use Rattle.item.specs.Content.{digits_at}
-use Rattle.item.specs.ContentLaws.{DateRange}
 use Rattle.energy.specs.Energies.{Rows}
 use Rattle.meter_holding.specs.Holding.{location_of, held_at, value_held, value_for, fresh_registers}
 
@@ -36,8 +31,3 @@ fresh_holds address forward reverse =
       second-day = refl;
       third-day = refl;
     }
-
--- Its date is a date, and WW its weekday.
-pub fresh-date : (address : List ℕ) (forward reverse : Rows) → DateRange (value_for 0x04000101 address fresh_registers forward reverse)
-unfolding digits_at digits
-fresh-date address forward reverse = rw (fresh_holds address forward reverse).date (record { date = weekday-date first; weekday = first })
