@@ -12,7 +12,7 @@ pub type Rows = [[Reading; 5]; 13];
 
 // Both directions, as a host call hands them back; laid out as C has them, for `call_ends`.
 #[repr(C)]
-#[derive(Drop)]
+#[derive(Clone, Copy)]
 pub struct Energies {
     pub forward: Rows,
     pub reverse: Rows,

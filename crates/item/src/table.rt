@@ -3,7 +3,7 @@ ghost use Rattle.std.specs.Prelude.{◌≡◌, ◌≤◌};
 ghost use Rattle.item.specs.Table.{item_of, energy_item, readings, writable_item};
 
 // What an identifier names.
-#[derive(Drop)]
+#[derive(Clone, Copy)]
 pub enum Kind {
     // Readings of direction 0, forward, or 1, reverse: of `rates` columns from `rate` on, each at `rows` rows from `row` on.
     Energy {
@@ -29,7 +29,7 @@ pub enum Kind {
 }
 
 // A row of the table: what is named, its length in bytes, and whether it may be written by 14H.
-#[derive(Drop)]
+#[derive(Clone, Copy)]
 pub struct Item {
     pub kind: Kind,
     pub length: usize,

@@ -3,7 +3,8 @@ use Rattle.std.specs.Prelude.{ℕ, ◌+◌, ◌-◌, ◌*◌, ◌/◌, ◌%◌, 
 use Rattle.std.proofs.Common.{sym, ◌∙◌, inl, inr, arith, add-one, eqb-true, eq-eqb}
 use Rattle.std.proofs.lemmas.Bool.{false≢true, eqb-false}
 use Rattle.std.proofs.Math.Bool.{and-eq-true_iff}
-use Rattle.std.proofs.Math.Logic.{Iff·rfl, ⊎_map}
+use Rattle.std.proofs.Math.Logic.{⊎_map}
+use mathlib.Core.Logic.Iff
 use Rattle.laws.specs.Test.{pick}
 use Rattle.laws.specs.TestLaws.{pick_cases, either}
 use Rattle.laws.specs.AllLaws.{all-below}
@@ -97,7 +98,7 @@ Tested date =
 
 pub date-tests : (date : Date) → (is_date date ≡ true) ↔ Tested date
 unfolding is_date
-date-tests date = simp (and-eq-true_iff, leb_iff, within-iff) Iff·rfl
+date-tests date = simp (and-eq-true_iff, leb_iff, within-iff) Iff.rfl
 
 -- Numbers are a date exactly where document 01 and W3 say so.
 pub date-words : (date : Date) → (is_date date ≡ true) ↔ IsDate date

@@ -10,7 +10,7 @@ use item_address::{WILDCARD, short_matches};
 use item_same::same_bytes;
 
 // The commands of document 01, with their controls.
-#[derive(Drop)]
+#[derive(Clone, Copy)]
 pub enum Command {
     // 11
     ReadData,

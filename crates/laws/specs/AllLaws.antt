@@ -2,7 +2,7 @@
 use Rattle.std.specs.Prelude.{ℕ, zero, suc, ◌<◌, ◌≡◌, refl, Bool, true, ◌↔◌, take, drop, get_or, set, replicate}
 use mathlib.Core.List.{List, [], ◌∷◌, ◌++◌, map}
 use Rattle.std.proofs.Math.Bool.{and-eq-true_iff}
-use Rattle.std.proofs.Math.Logic.{Iff·rfl}
+use mathlib.Core.Logic.Iff
 use Rattle.std.proofs.Common.{arith, below_none, below_more}
 use Rattle.laws.specs.All.{all_of, AllOf, AllBelow}
 
@@ -60,7 +60,7 @@ module _ {A : Type 0} (P : A → Type 0) where
   pub all-iff : (test : A → Bool) → ((x : A) → (test x ≡ true) ↔ P x) → (xs : List A) → (all_of test xs ≡ true) ↔ AllOf P xs
   unfolding all_of
   all-iff test each [] = (λ h. tt, λ u. refl)
-  all-iff test each (x ∷ xs) = simp (and-eq-true_iff, each, all-iff test each xs) Iff·rfl
+  all-iff test each (x ∷ xs) = simp (and-eq-true_iff, each, all-iff test each xs) Iff.rfl
 
 -- What holds of every number below another holds of each.
 pub all-below : (P : ℕ → Type 0) (n : ℕ) → AllBelow P n → (k : ℕ) → k < n → P k

@@ -37,7 +37,7 @@ pub(crate) fn join(kept: &[u8], count: usize, b: u8, out: &mut [u8])
     requires { (count ≤ length kept.now) × (count + 1 ≤ length out.old) }
     ensures { out.new ≡ over (take count kept.now ++ (b ∷ [])) out.old }
 {
-    bytes::copy(&kept[..count], out);
+    slice_bytes::copy(&kept[..count], out);
     out[count] = b;
 }
 
@@ -70,7 +70,7 @@ pub(crate) fn rescan(kept: &mut [u8; MOST_KEPT], count: usize, b: u8, out: &mut 
             }
         }
     }
-    bytes::copy(&line[at..n], kept);
+    slice_bytes::copy(&line[at..n], kept);
     Rescanned {
         count: n - at,
         bytes: written,

@@ -12,14 +12,14 @@ use frame::refusal::{OUT_OF_RANGE, SHORT_MEMORY};
 use line_verdict::{MOST_KEPT, Verdict};
 
 // A receiver: the first `count` bytes of `kept` are an unfinished frame. The array beyond them is never looked at.
-#[derive(Drop)]
+#[derive(Clone, Copy)]
 pub struct Receiver {
     pub kept: [u8; MOST_KEPT],
     pub count: usize,
 }
 
 // The answer to a call of the receiver.
-#[derive(Drop)]
+#[derive(Clone, Copy)]
 pub enum Answer {
     // A refusal, by document 01's number: nothing is delivered, and nothing changed.
     Refused(u8),
@@ -28,7 +28,7 @@ pub enum Answer {
 }
 
 // The receiver after a call, with the call's answer.
-#[derive(Drop)]
+#[derive(Clone, Copy)]
 pub struct Received {
     pub receiver: Receiver,
     pub answer: Answer,

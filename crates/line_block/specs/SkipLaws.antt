@@ -5,7 +5,7 @@ use Rattle.std.proofs.Math.Nat.{add-zero}
 use Rattle.std.proofs.Math.ListN.{length, get_or, length-drop}
 use Rattle.std.proofs.Math.Seq.{get_or-drop}
 use Rattle.std.proofs.lemmas.Bool.{eqb-false}
-use Rattle.bytes.specs.Bytes.{slice, index_of, index_after}
+use Rattle.slice_bytes.specs.Place.{slice, index_of, index_after}
 use Rattle.frame.specs.Recognition.{recognised}
 use Rattle.frame.specs.RecognitionLaws.{other-start}
 use Rattle.frame.specs.declared.Recognised.TheVariants.{Neither}
@@ -40,17 +40,17 @@ passes-one line at h n =
     }
 
 -- Before the first b in a list there is none.
-index_after : (b x : ℕ) (xs : List ℕ) (i : ℕ) (t : Bool) → eqb x b ≡ t → ((j : ℕ) → j < index_of b xs → get_or xs j 0 ≡ b → ⊥) →
+index_after_lem : (b x : ℕ) (xs : List ℕ) (i : ℕ) (t : Bool) → eqb x b ≡ t → ((j : ℕ) → j < index_of b xs → get_or xs j 0 ≡ b → ⊥) →
     i < index_after t (index_of b xs) → get_or (x ∷ xs) i 0 ≡ b → ⊥
 unfolding index_after
-index_after b x xs i true q rest h e = omega arith
-index_after b x xs zero false q rest h e = eqb-false _ _ q e
-index_after b x xs (suc i) false q rest h e = rest i (omega arith) e
+index_after_lem b x xs i true q rest h e = omega arith
+index_after_lem b x xs zero false q rest h e = eqb-false _ _ q e
+index_after_lem b x xs (suc i) false q rest h e = rest i (omega arith) e
 
 index_first : (b : ℕ) (xs : List ℕ) (i : ℕ) → i < index_of b xs → get_or xs i 0 ≡ b → ⊥
 unfolding index_of
 index_first b [] i h e = omega arith
-index_first b (x ∷ xs) i h e = index_after b x xs i (eqb x b) refl (index_first b xs) h e
+index_first b (x ∷ xs) i h e = index_after_lem b x xs i (eqb x b) refl (index_first b xs) h e
 
 -- What the search for the first 68 between two places passes.
 pub find_passes : (line : List ℕ) (from to r : ℕ) → to ≤ length line → r ≡ from + index_of 0x68 (slice from to line) → r ≤ to → Passes line from r

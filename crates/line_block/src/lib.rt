@@ -39,7 +39,7 @@ fn drain(block: &[u8], ended: bool, out: &mut [u8]) -> BlockAnswer
             let found = frame::recognise(&block[at..]);
             match found {
                 frame::Recognised::Whole(k) => {
-                    bytes::copy(&block[at..at + k], &mut out[written..]);
+                    slice_bytes::copy(&block[at..at + k], &mut out[written..]);
                     written += k;
                     frames += 1;
                     at += k;

@@ -45,11 +45,11 @@ pub(crate) fn next_start(line: &[u8], from: usize) -> usize
         return from;
     }
     let near = from + 8;
-    let at = bytes::scan::find(line, from, near, 0x68);
+    let at = slice_bytes::find(line, from, near, 0x68);
     if at < near {
         return at;
     }
     let wide = pass_clear(line, at, 128);
     let narrow = pass_clear(line, wide, 16);
-    bytes::scan::find(line, narrow, n, 0x68)
+    slice_bytes::find(line, narrow, n, 0x68)
 }

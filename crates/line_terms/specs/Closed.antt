@@ -2,7 +2,7 @@
 -- taken, and so that is what is certain then.
 use Rattle.std.specs.Prelude.{ℕ, ◌+◌, ◌≤◌, ◌≡◌, ◌↔◌, ◌⊎◌, length, take, drop}
 use Rattle.std.proofs.Common.{arith, sym, ◌∙◌, ap, inl, inr, length-append, length-drop}
-use Rattle.std.proofs.Math.Logic.{Iff·trans}
+use mathlib.Core.Logic.Iff
 use mathlib.Core.List.{List, [], ◌∷◌, ◌++◌, map, append-nil, Memᴰ}
 use Rattle.std.proofs.lemmas.List.{length-map, take-append-le, drop-append-le}
 use Rattle.frame.specs.RecognitionLaws.{frame-least}
@@ -95,5 +95,5 @@ taken-frames x =
     record {
       frames = (scan 0 0 (x ++ (silence ∷ []))).frames;
       rising = scan-rising 0 0 (x ++ (silence ∷ []));
-      exact = λ place frame. Iff·trans ((certain-frames (x ++ (silence ∷ []))).exact place frame) (ended-taken x place frame);
+      exact = λ place frame. Iff.trans ((certain-frames (x ++ (silence ∷ []))).exact place frame) (ended-taken x place frame);
     }

@@ -1,7 +1,7 @@
 -- For every line exactly one choice of taken frames keeps the rule.
 use Rattle.std.specs.Prelude.{ℕ, zero, suc, ◌<◌, ◌↔◌, List}
 use Rattle.std.proofs.Common.{arith}
-use Rattle.std.proofs.Math.Logic.{Iff·rfl, Iff·symm, Iff·trans}
+use mathlib.Core.Logic.Iff
 use Rattle.line_terms.specs.Line.{Symbol, Stands, Choice, Covered, Keeps}
 
 pub record OneChoice (line : List Symbol) : Type 1 where
@@ -40,9 +40,9 @@ below-same : (line : List Symbol) (a : ℕ → Choice) → ((m p : ℕ) (f : Lis
 below-same line a rule zero m p f h l = absurd (omega arith)
 below-same line a rule (suc n) zero p f h l = absurd (omega arith)
 below-same line a rule (suc n) (suc m) p f h l =
-    Iff·trans
+    Iff.trans
     (due_same line (below line n) (a m) p f (λ q g e. below-same line a rule n m q g (omega arith) (omega arith)))
-    (Iff·symm (rule m p f))
+    (Iff.symm (rule m p f))
 
 -- At each place the choice takes what is due after the earlier ones.
 pub one_choice : (line : List Symbol) → OneChoice line
@@ -54,7 +54,7 @@ one_choice line = record { taken = taken; keeps = keeps; only = only }
     keeps : Keeps line taken
     keeps p f =
         due_same line (below line p) taken p f
-        (λ q g e. below-same line (below line) (λ m r h. Iff·rfl) p (suc q) q g e (omega arith))
+        (λ q g e. below-same line (below line) (λ m r h. Iff.rfl) p (suc q) q g e (omega arith))
 
     only : (other : Choice) → Keeps line other → (p : ℕ) (f : List ℕ) → taken p f ↔ other p f
     only other rule p f = below-same line (λ m. other) (λ m. rule) (suc p) (suc p) p f (omega arith) (omega arith)

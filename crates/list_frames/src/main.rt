@@ -39,7 +39,7 @@ fn put_name(i: usize, name: &mut [u8]) -> usize
     requires { length name.old ≡ 4109 }
     ensures { (13 ≤ result) × (result ≤ 4109) }
 {
-    bytes::copy(b"list_frames: ", name);
+    slice_bytes::copy(b"list_frames: ", name);
     let n = os::arg(i, &mut name[BEGINNING..]);
     if os::errno() == libc::ENAMETOOLONG {
         return NAME;

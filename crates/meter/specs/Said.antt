@@ -3,7 +3,7 @@
 use Rattle.std.specs.Prelude.{ℕ, ◌≡◌, refl, List, [], ◌∷◌, Bool, true, false, ◌↔◌}
 use Rattle.std.proofs.Common.{sym, ap, subst, ◌∙◌}
 use Rattle.std.proofs.lemmas.Bool.{false≢true}
-use Rattle.std.proofs.Math.Logic.{Iff·trans}
+use mathlib.Core.Logic.Iff
 use Rattle.laws.specs.Memory.{Outcome}
 use Rattle.laws.specs.Said.{Said, values, refusal, IsRefusal, Refuses, refuses, answers}
 use Rattle.laws.specs.Test.{pick}
@@ -68,7 +68,7 @@ pub pulse-refuses : (amount direction rate : ℕ) (m : Meter) (forward reverse :
     Refuses {S = Whole} (host_said c.answer) (InRanges m forward reverse × Countable direction rate → ⊥) (m, energies_of forward reverse) (c.meter, c.energies)
 pulse-refuses amount direction rate m forward reverse =
     let c = counting.pulse-refuses amount direction rate (within_ranges m forward reverse) forward reverse in
-    record { exactly = Iff·trans c.exactly (told (within-ranges m forward reverse)); as_before = λ r. ap (λ (e : Energies). (m, e)) (c.as_before r) }
+    record { exactly = Iff.trans c.exactly (told (within-ranges m forward reverse)); as_before = λ r. ap (λ (e : Energies). (m, e)) (c.as_before r) }
 
 pub settle-refuses : (m : Meter) (forward reverse : Rows)
     → let c = settled_by m forward reverse in

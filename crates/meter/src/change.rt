@@ -28,7 +28,7 @@ pub(crate) fn written(meter: Meter, identifier: u32, payload: &[u8]) -> Meter
     let held = meter.registers;
     let registers = with_value(held, identifier, &payload[12..]);
     let mut operator = [0u8; 4];
-    bytes::copy(&payload[8..12], &mut operator);
+    slice_bytes::copy(&payload[8..12], &mut operator);
     let mut next = meter;
     next.registers = registers;
     next.operator = operator;
@@ -42,7 +42,7 @@ pub(crate) fn readdressed(meter: Meter, address: &[u8]) -> Meter
 {
     let mut next = meter;
     let mut own = [0u8; 6];
-    bytes::copy(address, &mut own);
+    slice_bytes::copy(address, &mut own);
     next.address = own;
     next
 }
@@ -56,7 +56,7 @@ pub(crate) fn with_password(meter: Meter, level: u8, password: &[u8]) -> Meter
     let mut passwords = next.passwords;
     let at = 3 * level as usize;
     let end = at + 3;
-    bytes::copy(password, &mut passwords[at..end]);
+    slice_bytes::copy(password, &mut passwords[at..end]);
     next.passwords = passwords;
     next
 }

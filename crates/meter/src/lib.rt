@@ -20,7 +20,7 @@ use meter_holding::{fresh_registers, within_ranges};
 
 // What a meter holds besides its readings; laid out as C has it, for `call_ends`.
 #[repr(C)]
-#[derive(Drop)]
+#[derive(Clone, Copy)]
 pub struct Meter {
     pub address: [u8; 6],
     // The programming key is on.

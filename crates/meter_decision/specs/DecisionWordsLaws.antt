@@ -5,7 +5,7 @@ use Rattle.std.proofs.Math.Path.{refl}
 use Rattle.std.proofs.Common.{sym, ◌∙◌, ap, inl, inr, arith}
 use Rattle.std.proofs.Math.Bool.{true, and-eq-true_iff}
 use Rattle.std.proofs.lemmas.Bool.{false≢true}
-use Rattle.std.proofs.Math.Logic.{Iff·rfl}
+use mathlib.Core.Logic.Iff
 use borrow.Author.Tests.{leb-true, le-leb, eqb-true, eq-eqb}
 use Rattle.laws.specs.Memory.{Bytes}
 use Rattle.laws.specs.Words.{Every, FirstFails, Say}
@@ -59,7 +59,7 @@ module _ (payload : List ℕ) where
   module _ (named : NamesItem payload) where
     is_writable_lem : (is_writable (item_asked payload) ≡ true) ↔ (named.0.writable ≡ true)
     unfolding item_asked
-    is_writable_lem = rw named.1 Iff·rfl
+    is_writable_lem = rw named.1 Iff.rfl
 
     is_as_long : (has_length (item_asked payload) (length (written_value payload)) ≡ true) ↔ (length (written_value payload) ≡ named.0.length)
     unfolding item_asked
@@ -114,7 +114,7 @@ write_says payload key passwords = (
       is_writable_lem payload named,
       refl,
       λ writable. (
-        Iff·rfl,
+        Iff.rfl,
         refl,
         λ _. (right-password payload 4 passwords, refl, λ _. (is_as_long payload named, refl, λ long. (is_allowed_lem payload named writable long, refl, λ _. tt))),
       ),
@@ -129,7 +129,7 @@ unfolding checks_of
 checks_say ReadData payload key passwords bytes = (eqb_iff _ _, refl, λ _. (names-item payload, refl, λ _. tt))
 checks_say ReadAddress payload key passwords bytes = (eqb_iff _ _, refl, λ _. tt)
 checks_say WriteAddress payload key passwords bytes =
-    (eqb_iff _ _, refl, λ _. (Iff·rfl, refl, λ _. ((good payload, is_good_lem payload), refl, λ _. tt)))
+    (eqb_iff _ _, refl, λ _. (Iff.rfl, refl, λ _. ((good payload, is_good_lem payload), refl, λ _. tt)))
 checks_say WriteData payload key passwords bytes = write_says payload key passwords
 checks_say ChangePassword payload key passwords bytes = (
   eqb_iff _ _,
@@ -138,7 +138,7 @@ checks_say ChangePassword payload key passwords bytes = (
     names-password payload twelve bytes,
     refl,
     λ _. (
-      Iff·rfl,
+      Iff.rfl,
       refl,
       λ _. (right-password payload (new_level_of payload) passwords, refl, λ _. ((all-decimal _, decimal-all _), refl, λ _. tt)),
     ),

@@ -79,7 +79,7 @@ pub(crate) fn write_address(payload: &[u8], key: bool) -> Decision
         return Decision::Silent(SILENT_BY_RULE);
     };
     let mut address = [0u8; 6];
-    bytes::copy(payload, &mut address);
+    slice_bytes::copy(payload, &mut address);
     let Tested::Holds = check_of(is_good(address)) else {
         return Decision::Silent(SILENT_BY_RULE);
     };

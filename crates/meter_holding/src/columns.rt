@@ -16,7 +16,7 @@ fn write_column(rows: &Rows, rate: usize, row: usize, count: usize, out: &mut [u
     let mut at = 0;
     while i < count {
         let bytes = bytes_of(rows[row + i][rate]);
-        bytes::copy(&bytes, &mut out[at..]);
+        slice_bytes::copy(&bytes, &mut out[at..]);
         i += 1;
         at += 4;
     }

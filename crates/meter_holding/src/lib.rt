@@ -86,11 +86,11 @@ fn write_held(
             write_columns(reverse, rate, rates, row, rows, out);
         }
         Location::OwnAddress => {
-            bytes::copy(&address, out);
+            slice_bytes::copy(&address, out);
         }
         Location::Register(at) => {
             let end = at + item.length;
-            bytes::copy(&registers[at..end], out);
+            slice_bytes::copy(&registers[at..end], out);
         }
     }
 }
@@ -123,7 +123,7 @@ fn put(registers: [u8; 21], at: usize, value: &[u8]) -> [u8; 21]
 {
     let mut next = registers;
     let end = at + value.len();
-    bytes::copy(value, &mut next[at..end]);
+    slice_bytes::copy(value, &mut next[at..end]);
     next
 }
 

@@ -41,7 +41,7 @@ fn put_part(part: &[u8], place: usize, out: &mut [u8])
     requires { place + length part.now ≤ length out.old }
     ensures { out.new ≡ over (take place out.old ++ part.now) out.old }
 {
-    bytes::copy(part, &mut out[place..]);
+    slice_bytes::copy(part, &mut out[place..]);
 }
 
 // Puts the data of a write: identifier, level, password, operator code, value; answers how many they are.

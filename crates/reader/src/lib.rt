@@ -20,7 +20,7 @@ pub const REQUEST_MEMORY: usize = 66;
 pub const VALUE_MEMORY: usize = 196;
 
 // A request. What its action does not use is ignored.
-#[derive(Drop)]
+#[derive(Clone, Copy)]
 pub struct Request {
     pub action: Action,
     // A good address, or a short one for a read of data.
@@ -71,7 +71,7 @@ fn deliver(decided: Judgement, start: usize, payload: &[u8], out: &mut [u8]) -> 
 {
     match decided {
         Judgement::Value(n) => {
-            bytes::copy(&payload[start..], out);
+            slice_bytes::copy(&payload[start..], out);
             Judgement::Value(n)
         }
         Judgement::Error(byte) => Judgement::Error(byte),

@@ -10,7 +10,7 @@ use item_command::Command;
 use judge::{judge_address, judge_error, judge_read, judge_written};
 
 // What a request asks for.
-#[derive(Drop)]
+#[derive(Clone, Copy)]
 pub enum Action {
     ReadData,
     ReadAddress,

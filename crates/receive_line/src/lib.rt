@@ -25,7 +25,7 @@ fn gather(delivered: &[u8], count: usize, at: usize, out: &mut [u8]) -> usize
     if count == 0 {
         return at;
     }
-    bytes::copy(&delivered[..count], &mut out[at..]);
+    slice_bytes::copy(&delivered[..count], &mut out[at..]);
     at + count
 }
 

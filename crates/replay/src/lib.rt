@@ -20,7 +20,7 @@ use trace::{Front, record_at};
 pub const STEP_MEMORY: usize = 8192;
 
 // What a replay goes on with: the receiver, the meter and both directions' readings.
-#[derive(Drop)]
+#[derive(Clone, Copy)]
 pub struct ReplayState {
     pub receiver: Receiver,
     pub meter: Meter,

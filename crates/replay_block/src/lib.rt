@@ -17,7 +17,7 @@ use trace::{Front, record_at};
 pub const TEXT_OF_A_TRACE_BYTE: usize = 18;
 
 // What a replay in blocks goes on with, and what it has come to so far; the numbers are modulo 2^64.
-#[derive(Drop)]
+#[derive(Clone, Copy)]
 pub struct Session {
     pub state: ReplayState,
     // The place of the next record in the whole trace.
@@ -125,8 +125,8 @@ fn keep(buffer: &mut [u8], at: usize, end: usize) -> usize
 {
     let mut rest = [0u8; 6];
     let count = end - at;
-    bytes::copy(&buffer[at..end], &mut rest);
-    bytes::copy(&rest[..count], buffer);
+    slice_bytes::copy(&buffer[at..end], &mut rest);
+    slice_bytes::copy(&rest[..count], buffer);
     count
 }
 

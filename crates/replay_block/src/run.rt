@@ -16,7 +16,7 @@ use std::num::wrapping_add_u64;
 use trace::{Front, record_at};
 
 // How far the records of a block are played: the session, the place of the next record in the block, and how many bytes of text are written.
-#[derive(Drop)]
+#[derive(Clone, Copy)]
 pub(crate) struct Run {
     pub session: Session,
     pub at: usize,

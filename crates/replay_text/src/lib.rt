@@ -147,6 +147,6 @@ pub fn write_message(message: Message, out: &mut [u8]) -> Written
     if out.len() < used {
         return Written::TooLittleMemory;
     }
-    bytes::copy(&line[..used], out);
+    slice_bytes::copy(&line[..used], out);
     Written::Length(used)
 }

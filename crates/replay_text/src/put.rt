@@ -9,7 +9,7 @@ pub(crate) fn put(part: &[u8], at: usize, line: &mut [u8]) -> usize
     requires { at + length part.now ≤ length line.old }
     ensures { Puts (take at line.old ++ part.now) result line.old line.new }
 {
-    bytes::copy(part, &mut line[at..]);
+    slice_bytes::copy(part, &mut line[at..]);
     at + part.len()
 }
 

@@ -51,7 +51,7 @@ fn read_part(
     if out.len() < start {
         return spoilt();
     }
-    bytes::copy(part, &mut block[kept..]);
+    slice_bytes::copy(part, &mut block[kept..]);
     let answer = recording::read_step(block, kept, part.len(), ended, &mut out[start..]);
     let StepAnswer::Delivered {
         bytes,

@@ -27,7 +27,7 @@ fn refuse_block(words: &[u8], block: &[u8], out: &mut [u8]) {
 fn refuse_step(words: &[u8], block: &[u8; 300], kept: usize, read: usize, out: &mut [u8]) {
     write(words);
     let mut buffer = [0u8; 300];
-    bytes::copy(block, &mut buffer);
+    slice_bytes::copy(block, &mut buffer);
     let answer = recording::read_step(&mut buffer, kept, read, true, out);
     let StepAnswer::Refused(number) = answer else {
         write(b"not refused\n");
@@ -47,7 +47,7 @@ fn refuse_listing(
 ) {
     write(words);
     let mut buffer = [0u8; 300];
-    bytes::copy(block, &mut buffer);
+    slice_bytes::copy(block, &mut buffer);
     let listed = listing::step::list_step(&mut buffer, kept, read, frames, text);
     let StepListed::Refused(number) = listed else {
         write(b"not refused\n");
@@ -129,7 +129,7 @@ pub fn refuse(line: &[u8]) {
         return;
     }
     let mut block = [0u8; 300];
-    bytes::copy(&line[..300], &mut block);
+    slice_bytes::copy(&line[..300], &mut block);
     let mut short = [FILL; 299];
     write(b"too short\n");
     refuse_block(b"a block, memory: ", &block, &mut short);

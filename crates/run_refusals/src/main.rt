@@ -12,7 +12,7 @@ fn keeping(place: usize, byte: u8, count: usize) -> Receiver {
         0x16,
     ];
     let mut kept = [0u8; MOST_KEPT];
-    bytes::copy(&a, &mut kept);
+    slice_bytes::copy(&a, &mut kept);
     if place < 16 {
         kept[place] = byte;
     }

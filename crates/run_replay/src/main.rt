@@ -14,7 +14,7 @@ mod call;
 mod state;
 mod step;
 
-use bytes::scan::find;
+use slice_bytes::find;
 use call::{Verb, call_of};
 use libc::STDIN_FILENO;
 use run_text::read::is_comment;

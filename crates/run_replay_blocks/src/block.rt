@@ -89,7 +89,7 @@ pub(crate) fn play(state: State, read: usize, buffer: &mut [u8]) -> State {
     if BUFFER < buffer.len() {
         return state;
     }
-    bytes::copy(buffer, &mut before);
+    slice_bytes::copy(buffer, &mut before);
     let mut out = [FILL; MEMORY];
     let size = at_most(buffer.len(), state.size);
     let room = at_most(MEMORY, state.room);

@@ -22,7 +22,7 @@ mod call;
 mod state;
 
 use block::play;
-use bytes::scan::find;
+use slice_bytes::find;
 use call::{Shown, Verb, shown_of, verb_of};
 use libc::STDIN_FILENO;
 use run_replay_parts::{shown, text};

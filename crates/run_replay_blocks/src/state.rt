@@ -1,5 +1,5 @@
 // What stands between two lines of the script, and the calls that change it and play no block.
-use bytes::scan::find;
+use slice_bytes::find;
 use replay::ReplayState;
 use replay_begin::{Opening, begin_with};
 use replay_block::Session;

@@ -76,7 +76,7 @@ fn run_lines(text: &[u8]) {
     let mut state = State::start();
     let mut at = 0;
     while at < text.len() {
-        let end = bytes::scan::find(text, at, text.len(), b'\n');
+        let end = slice_bytes::find(text, at, text.len(), b'\n');
         state = run_line(state, &text[at..end]);
         at = end + 1;
     }

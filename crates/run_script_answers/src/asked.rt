@@ -22,7 +22,7 @@ pub fn six_at(bytes: &[u8], at: usize) -> [u8; 6] {
     if 256 < at || bytes.len() < at + 6 {
         return six;
     }
-    bytes::copy(&bytes[at..at + 6], &mut six);
+    slice_bytes::copy(&bytes[at..at + 6], &mut six);
     six
 }
 
@@ -33,9 +33,9 @@ fn value_of(bytes: &[u8]) -> [u8; 38] {
         return value;
     }
     if bytes.len() < 57 {
-        bytes::copy(&bytes[19..], &mut value);
+        slice_bytes::copy(&bytes[19..], &mut value);
     } else {
-        bytes::copy(&bytes[19..57], &mut value);
+        slice_bytes::copy(&bytes[19..57], &mut value);
     }
     value
 }

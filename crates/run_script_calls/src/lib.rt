@@ -1,5 +1,5 @@
 // A line of a script as a call: its word says which, and behind the word stand numbers in decimal or bytes in hexadecimal.
-use bytes::scan::find;
+use slice_bytes::find;
 use run_text::read::{BytesRead, Numbers, read_bytes, read_numbers};
 
 // Which call a line asks for.

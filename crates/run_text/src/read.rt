@@ -127,7 +127,7 @@ pub fn read_numbers(text: &[u8], most: u32) -> Numbers {
     };
     let mut at = 0;
     while at < text.len() {
-        let end = bytes::scan::find(text, at + 1, text.len(), b' ');
+        let end = slice_bytes::find(text, at + 1, text.len(), b' ');
         let n = number_of(&text[at + 1..end]);
         if (most as u64) < n {
             return none;

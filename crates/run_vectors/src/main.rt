@@ -2,7 +2,7 @@
 // the receiver handed on what is expected. An empty line and one that begins with # are skipped.
 mod vector;
 
-use bytes::scan::find;
+use slice_bytes::find;
 use libc::STDIN_FILENO;
 use run_text::count::{Tally, sum};
 use run_text::read::is_comment;

@@ -1,6 +1,6 @@
 // A vector: `NAME: SYMBOLS > EXPECTED / COUNT`. The symbols are bytes in hexadecimal, or -- for a silence, each after a
 // blank; expected are the bytes that all calls together hand on, and the number of frames that they report.
-use bytes::scan::find;
+use slice_bytes::find;
 use run_text::heard::{Gathered, hear_text, same};
 use run_text::read::{BytesRead, read_bytes, read_numbers};
 

@@ -7,7 +7,7 @@ use frame::refusal::{BAD_RECORD, CUT_OFF};
 use item_identifier::identifier_of;
 
 // A record.
-#[derive(Drop)]
+#[derive(Clone, Copy)]
 pub enum TraceRecord {
     // 01: one received byte.
     Byte(u8),
@@ -26,7 +26,7 @@ pub enum TraceRecord {
 }
 
 // What stands at the front of the rest of a trace.
-#[derive(Drop)]
+#[derive(Clone, Copy)]
 pub enum Front {
     // Nothing: the trace has ended.
     Ended,
