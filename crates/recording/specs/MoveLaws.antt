@@ -4,7 +4,7 @@ use Rattle.std.proofs.Common.{arith, ap, ◌∙◌, map-id, length-drop}
 use Rattle.std.proofs.Math.Path.{sym}
 use Rattle.std.proofs.Math.ListN.{length, get_or, length-map}
 use Rattle.std.proofs.Math.Seq.{get_or-drop, get_or-take, length-take-le}
-use Rattle.bytes.specs.Bytes.{slice}
+use Rattle.slice_bytes.specs.Place.{slice}
 use Rattle.laws.specs.Memory.{over}
 use Rattle.laws.specs.MemoryLaws.{Mapping, mapping_start, mapping_next, mapping_end, over-behind}
 

@@ -6,7 +6,7 @@ use Rattle.std.proofs.Math.Path.{ap, sym}
 use mathlib.Core.List.{List}
 use Rattle.std.proofs.Math.ListN.{length}
 use borrow.Author.Tests.{le-leb, lt-leb, leb-true, leb-false}
-use Rattle.bytes.specs.Bytes.{slice}
+use Rattle.slice_bytes.specs.Place.{slice}
 use Rattle.laws.specs.Memory.{outcome, over}
 use Rattle.laws.specs.TestLaws.{pick_cases}
 use Rattle.line_terms.specs.Places.{joined}

@@ -3,7 +3,7 @@
 // at the front of the buffer. What every list of steps from a buffer that keeps nothing delivers and keeps is `blocks_due` in
 // specs/Blocks.antt.
 ghost use Rattle.std.specs.Prelude.{◌≡◌, ◌≤◌, length};
-ghost use Rattle.bytes.specs.Bytes.{slice};
+ghost use Rattle.slice_bytes.specs.Place.{slice};
 ghost use Rattle.laws.specs.Memory.{over};
 ghost use Rattle.recording.specs.Step.{step_outcome, step_read};
 
