@@ -1,5 +1,7 @@
 // A pulse and a settlement counted in both directions' readings: document 01, "Host calls besides frames". Whether the meter is within
 // its ranges is told by the caller. What they make of one direction's rows is private, in rows.rt: a bad rate is refused here, with 8.
+#![tactic(auto)]
+
 mod rows;
 
 ghost use Rattle.std.specs.Prelude.{◌≡◌};
@@ -36,6 +38,7 @@ fn with_answer(forward: Rows, reverse: Rows, answer: HostAnswer) -> CountedReadi
 }
 
 // The answer to a call: 16 for a meter outside its ranges, then 8 for a bad direction or rate.
+#[tactic(auto, unfolding(crate::specs::Counting::answer_of))]
 fn answer_of(within: bool, good: bool) -> HostAnswer
     ensures { result ≡ answer_of within good }
 {
@@ -59,6 +62,7 @@ fn rate_where(counts: bool, rate: u8) -> u8
 }
 
 // The readings of a direction with a pulse amount added where it counts there, else as they are.
+#[tactic(auto, using(crate::specs::CountingLaws::pulsed_where))]
 fn pulsed_where(counts: bool, rows: Rows, amount: u32, rate: u8) -> Rows
     ensures { result ≡ pick counts (pulsed rows amount rate) rows }
 {

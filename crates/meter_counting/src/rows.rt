@@ -6,6 +6,7 @@ use energy::{Rows, reading};
 use item_range::is_within;
 
 // Whether a number is a rate, 1 to 4.
+#[tactic(auto, unfolding(crate::specs::Rows::is_rate))]
 pub(crate) fn is_rate(rate: u8) -> bool
     ensures { result ≡ of_rows.is_rate rate }
 {
@@ -13,6 +14,7 @@ pub(crate) fn is_rate(rate: u8) -> bool
 }
 
 // A pulse amount added to row 0's rate and total; what is no rate changes nothing.
+#[tactic(auto, unfolding(crate::specs::Rows::pulsed))]
 pub(crate) fn pulsed(rows: Rows, amount: u32, rate: u8) -> Rows
     ensures { result ≡ of_rows.pulsed rows amount rate }
 {
