@@ -1,5 +1,5 @@
 -- Where none of the elements before a place is the one looked for, the first place is that of the rest.
-use Rattle.std.proofs.Common.{◌≡◌, ℕ, zero, suc, ◌+◌, ◌-◌, ◌<◌, ◌≤◌, List, [], ◌∷◌, eqb, true, false, length, get_or, take, drop, arith, ap, sym, ◌∙◌, refl, ne_eqb, eq-eqb, drop-cons, add-zero, length-drop, length-take, get_or-take, get_or-drop}
+use Rattle.std.proofs.Common.{◌≡◌, ℕ, zero, suc, ◌+◌, ◌-◌, ◌<◌, ◌≤◌, List, [], ◌∷◌, eqb, false, length, get_or, take, drop, arith, sym, ◌∙◌, refl, ne_eqb, eq-eqb, add-zero, length-drop, length-take, get_or-take, get_or-drop}
 use Rattle.slice_bytes.specs.Place.{slice, index_after, index_of}
 
 -- The first element is the one looked for.
@@ -11,12 +11,12 @@ index_of-here b (x ∷ xs) h e = rw (eq-eqb x b e) refl
 -- Elements that are not the one looked for are counted.
 index_of-passed : (b : ℕ) (xs : List ℕ) (n : ℕ) → n ≤ length xs → ((k : ℕ) → k < n → get_or xs k 0 ≡ b → ⊥) → index_of b xs ≡ n + index_of b (drop n xs)
 unfolding index_of index_after
-index_of-passed b xs zero h none = refl
+index_of-passed b xs zero h none = omega arith
 index_of-passed b [] (suc n) h none = omega arith
 index_of-passed b (x ∷ xs) (suc n) h none =
     let first : eqb x b ≡ false = ne_eqb x b (none 0 (omega arith)) in
-    let rest = index_of-passed b xs n (omega arith) (λ k l. none (suc k) (omega arith)) in
-    rw first (ap suc rest)
+    let rest : index_of b xs ≡ n + index_of b (drop n xs) = index_of-passed b xs n (omega arith) (λ k l. none (suc k) (omega arith)) in
+    rw first (omega (arith, rest))
 
 -- Nothing is behind the end of a list.
 drop-whole : (n : ℕ) (xs : List ℕ) → length xs ≤ n → drop n xs ≡ []
@@ -53,10 +53,10 @@ module _ (bytes : List ℕ) (from to i b : ℕ) (low : from ≤ i) (high : to �
       let here : get_or (drop (i - from) (slice from to bytes)) 0 0 ≡ b =
       get_or-drop (i - from) (slice from to bytes) 0 0 ∙ rw add-zero (part-at (i - from) (omega arith) ∙ rw place e) in
       let some : 0 < length (drop (i - from) (slice from to bytes)) = rw length-drop (omega (arith, size)) in
-      omega (arith, passed (omega arith), index_of-here b _ some here)
+      omega (arith, passed (omega arith), index_of-here b (drop (i - from) (slice from to bytes)) some here)
 
   -- It stands nowhere before `to`.
   pub nowhere : i ≡ to → from ≤ to → to ≡ from + index_of b (slice from to bytes)
   nowhere e l =
-      let none_left : drop (i - from) (slice from to bytes) ≡ [] = drop-whole _ _ (omega (arith, size)) in
-      omega (arith, passed (omega arith), index_of-empty b _ none_left)
+      let none_left : drop (i - from) (slice from to bytes) ≡ [] = drop-whole (i - from) (slice from to bytes) (omega (arith, size)) in
+      omega (arith, passed (omega arith), index_of-empty b (drop (i - from) (slice from to bytes)) none_left)

@@ -1,5 +1,5 @@
 -- None of the bytes passed is the one looked for.
-use Rattle.std.proofs.Common.{◌≡◌, ℕ, ◌+◌, ◌<◌, ◌≤◌, get_or}
+use Rattle.std.proofs.Common.{◌≡◌, ℕ, ◌<◌, ◌≤◌, get_or}
 use Rattle.slice_bytes.proofs.find.Given as goal
 
 abbrev pub invariant-loop-i : goal.invariant-loop-i
