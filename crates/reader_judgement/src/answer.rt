@@ -20,6 +20,7 @@ fn may_fail(action: Action) -> bool
 }
 
 // Whether a control code is that of the normal reply to an action.
+#[tactic(auto, unfolding(crate::specs::Judging::is_normal))]
 pub(crate) fn is_normal(action: Action, control: u8) -> bool
     ensures { result ≡ is_normal action control }
 {
@@ -27,6 +28,7 @@ pub(crate) fn is_normal(action: Action, control: u8) -> bool
 }
 
 // Whether a control code is that of the error reply to an action.
+#[tactic(auto, unfolding(crate::specs::Judging::is_error))]
 pub(crate) fn is_error(action: Action, control: u8) -> bool
     ensures { result ≡ is_error action control }
 {
@@ -37,6 +39,7 @@ pub(crate) fn is_error(action: Action, control: u8) -> bool
 }
 
 // Whether a reply to a read of data may come from this address.
+#[tactic(auto, unfolding(crate::specs::Judging::answers_from))]
 fn answers_read(address: [u8; 6], from: [u8; 6]) -> bool
     ensures { result ≡ answers_from Action.ReadData address from }
 {
@@ -50,6 +53,7 @@ fn answers_read(address: [u8; 6], from: [u8; 6]) -> bool
 }
 
 // Whether a reply to a request for one address may come from another.
+#[tactic(auto, unfolding(crate::specs::Judging::answers_from))]
 pub(crate) fn answers_from(action: Action, address: [u8; 6], from: [u8; 6]) -> bool
     ensures { result ≡ answers_from action address from }
 {

@@ -12,6 +12,7 @@ use item_identifier::identifier_bytes;
 use item_same::same_bytes;
 
 // An error reply: L 1, and its byte.
+#[tactic(auto, unfolding(crate::specs::Judging::error_checks, laws::specs::Checks::first_failing))]
 pub(crate) fn judge_error(payload: &[u8]) -> Judgement
     ensures { result ≡ first_failing Judgement.Refused (error_checks payload.now) (Judgement.Error (get_or payload.now 0 0)) }
 {
@@ -22,6 +23,7 @@ pub(crate) fn judge_error(payload: &[u8]) -> Judgement
 }
 
 // A 91: L of at least 4, the identifier, the value's length, every half byte.
+#[tactic(auto, unfolding(crate::specs::Judging::normal_checks, laws::specs::Checks::first_failing))]
 pub(crate) fn judge_read(identifier: u32, payload: &[u8]) -> Judgement
     ensures { result ≡ first_failing Judgement.Refused (normal_checks Action.ReadData identifier [] payload.now) (Judgement.Value (length (drop 4 payload.now))) }
 {
@@ -46,6 +48,7 @@ pub(crate) fn judge_read(identifier: u32, payload: &[u8]) -> Judgement
 }
 
 // A 93: L 6, every half byte, its own address repeated, a good one.
+#[tactic(auto, unfolding(crate::specs::Judging::normal_checks, laws::specs::Checks::first_failing))]
 pub(crate) fn judge_address(from: [u8; 6], payload: &[u8]) -> Judgement
     ensures { result ≡ first_failing Judgement.Refused (normal_checks Action.ReadAddress 0 from payload.now) (Judgement.Value (length payload.now)) }
 {
@@ -65,6 +68,7 @@ pub(crate) fn judge_address(from: [u8; 6], payload: &[u8]) -> Judgement
 }
 
 // A 94: L 0.
+#[tactic(auto, unfolding(crate::specs::Judging::normal_checks, laws::specs::Checks::first_failing))]
 pub(crate) fn judge_written(payload: &[u8]) -> Judgement
     ensures { result ≡ first_failing Judgement.Refused (normal_checks Action.WriteData 0 [] payload.now) (Judgement.Value (length payload.now)) }
 {

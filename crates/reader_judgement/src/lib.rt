@@ -1,4 +1,6 @@
 // A reply's control code, address and data judged against what was asked: document 01, "The reader's end".
+#![tactic(auto)]
+
 mod answer;
 mod judge;
 
@@ -52,6 +54,7 @@ pub fn is_answer(action: Action, address: [u8; 6], control: u8, from: [u8; 6]) -
 }
 
 // A reply whose control and address are an answer to the request, judged by its data.
+#[tactic(auto, unfolding(crate::specs::Judging::data_judgement, crate::specs::Judging::normal_checks, crate::specs::Judging::reply_value))]
 pub fn judge_data(
     action: Action,
     identifier: u32,
