@@ -1,4 +1,6 @@
 // Which requests are allowed: document 01, "The reader's end".
+#![tactic(auto)]
+
 ghost use Rattle.std.specs.Prelude.{◌≡◌, []};
 ghost use Rattle.laws.specs.Checks.{first_failing};
 ghost use Rattle.reader_allowed.specs.Allowed.{address_allowed, conditions_of, value_conditions, admission};
@@ -31,6 +33,7 @@ pub enum Admission {
 }
 
 // Whether a read may go to this address: a good one, or a short one.
+#[tactic(auto, unfolding(crate::specs::Allowed::address_allowed))]
 fn is_readable(address: [u8; 6]) -> bool
     ensures { result ≡ address_allowed address }
 {
@@ -41,6 +44,7 @@ fn is_readable(address: [u8; 6]) -> bool
 }
 
 // A read: the address, then the identifier.
+#[tactic(auto, unfolding(crate::specs::Allowed::conditions_of, laws::specs::Checks::first_failing))]
 fn read_admission(address: [u8; 6], identifier: u32) -> Admission
     ensures { result ≡ first_failing Admission.Refused (conditions_of Action.ReadData address identifier 0 [] 0) Admission.Allowed }
 {
@@ -54,6 +58,7 @@ fn read_admission(address: [u8; 6], identifier: u32) -> Admission
 }
 
 // What is left of a write of a listed item: writable, the level, the value's length, then its content, decimal before ranges.
+#[tactic(auto, unfolding(crate::specs::Allowed::value_conditions, crate::specs::Allowed::content_checks, laws::specs::Checks::first_failing))]
 fn value_admission(level: u8, value: [u8; MOST_VALUE], count: usize, item: Item) -> Admission
     ensures { result ≡ first_failing Admission.Refused (value_conditions level value count item) Admission.Allowed }
 {
@@ -80,6 +85,7 @@ fn value_admission(level: u8, value: [u8; MOST_VALUE], count: usize, item: Item)
 }
 
 // A write: a good address, the identifier, and what is left.
+#[tactic(auto, unfolding(crate::specs::Allowed::conditions_of, laws::specs::Checks::first_failing))]
 fn write_admission(
     address: [u8; 6],
     identifier: u32,
@@ -100,6 +106,7 @@ fn write_admission(
 
 // Whether a request of these parts is allowed, and if not, the first cause. The value is the first `count` of its bytes; what the action
 // does not use is ignored.
+#[tactic(auto, unfolding(crate::specs::Allowed::admission, crate::specs::Allowed::conditions_of, laws::specs::Checks::first_failing))]
 pub fn admit(
     action: Action,
     address: [u8; 6],
