@@ -181,12 +181,13 @@ made_answers m forward reverse (f ∷ fs) =
 made-frames : (m : Meter) (forward reverse : Rows) (fs : List (List ℕ)) → frames_in (made_answers m forward reverse fs) ≡ fs
 unfolding made_answers
 made-frames m forward reverse [] = refl
-made-frames m forward reverse (f ∷ fs) = ap (λ (l : List (List ℕ)). f ∷ l) (made-frames _ forward reverse fs)
+made-frames m forward reverse (f ∷ fs) = ap (λ (l : List (List ℕ)). f ∷ l) (made-frames (answered f m forward reverse (replicate 212 0)).answer.meter forward reverse fs)
 
 made_calls : (m : Meter) (forward reverse : Rows) (fs : List (List ℕ)) → AnswerCalls m forward reverse (made_answers m forward reverse fs)
 unfolding made_answers
 made_calls m forward reverse [] = tt
-made_calls m forward reverse (f ∷ fs) = (omega (arith, length-replicate {A = ℕ} 212 0), refl, made_calls _ forward reverse fs)
+made_calls m forward reverse (f ∷ fs) =
+    (omega (arith, length-replicate {A = ℕ} 212 0), refl, made_calls (answered f m forward reverse (replicate 212 0)).answer.meter forward reverse fs)
 
 -- A call of the receiver with a symbol, lent 212 bytes, and calls of `answer` for what it hands on.
 made_call : Symbol → ReplayState → ReceiverCall
@@ -215,18 +216,18 @@ made-hears {s = s} f x =
 -- There always are calls by hand.
 pub some-hand : {line : List Symbol} {s : ReplayState} (rs : List TraceRecord) → Fit line s → SomeHand s rs
 some-hand [] f = record { turns = []; by_hand = done }
-some-hand (Byte b ∷ rs) f =
+some-hand {line = line} (Byte b ∷ rs) f =
     let h = made-hears f (symbol.byte b) in
-    let more = some-hand rs (turn-fit (Byte b) f (byte-same b f h)) in
+    let more = some-hand {line = line ++ spelled_by (Byte b)} rs (turn-fit (Byte b) f (byte-same b f h)) in
     record { turns = heard _ _ ∷ more.turns; by_hand = byte h more.by_hand }
-some-hand (Silence ∷ rs) f =
+some-hand {line = line} (Silence ∷ rs) f =
     let h = made-hears f symbol.silence in
-    let more = some-hand rs (turn-fit Silence f (silence-same f h)) in
+    let more = some-hand {line = line ++ spelled_by Silence} rs (turn-fit Silence f (silence-same f h)) in
     record { turns = heard _ _ ∷ more.turns; by_hand = silence h more.by_hand }
-some-hand (Pulse direction rate amount ∷ rs) f =
-    let more = some-hand rs (turn-fit (Pulse direction rate amount) f (pulse-same direction rate amount refl)) in
+some-hand {line = line} (Pulse direction rate amount ∷ rs) f =
+    let more = some-hand {line = line ++ spelled_by (Pulse direction rate amount)} rs (turn-fit (Pulse direction rate amount) f (pulse-same direction rate amount refl)) in
     record { turns = counted _ ∷ more.turns; by_hand = pulse refl more.by_hand }
-some-hand (Key on ∷ rs) f =
-    let more = some-hand rs (turn-fit (Key on) f (key-same on refl)) in record { turns = keyed _ ∷ more.turns; by_hand = key refl more.by_hand }
-some-hand (Settle ∷ rs) f =
-    let more = some-hand rs (turn-fit Settle f (settle-same refl)) in record { turns = counted _ ∷ more.turns; by_hand = settle refl more.by_hand }
+some-hand {line = line} (Key on ∷ rs) f =
+    let more = some-hand {line = line ++ spelled_by (Key on)} rs (turn-fit (Key on) f (key-same on refl)) in record { turns = keyed _ ∷ more.turns; by_hand = key refl more.by_hand }
+some-hand {line = line} (Settle ∷ rs) f =
+    let more = some-hand {line = line ++ spelled_by Settle} rs (turn-fit Settle f (settle-same refl)) in record { turns = counted _ ∷ more.turns; by_hand = settle refl more.by_hand }

@@ -242,9 +242,10 @@ came-fit f came = subst (Fit _) (sym came.state-same) (all_fit came.records f)
 steps_came : {at : ℕ} {line : List Symbol} {s : ReplayState} (trace : List ℕ) (calls : List StepCall) → Bytes trace → at ≤ length trace → Fit line s →
     Steps trace at s calls → Came trace at s (place_after at calls) (text_after calls) (plays_after calls) (lines_after calls) (state_after s calls)
 steps_came trace [] bytes within f h = came_nowhere trace _ _ within
-steps_came trace (c ∷ cs) bytes within f h =
+steps_came {at = at} {line = line} trace (c ∷ cs) bytes within f h =
     let first = step-came trace c bytes within f h.0 in
-    came-then first (steps_came trace cs bytes first.reached (came-fit f first) h.1)
+    let next : ℕ = place_by c.returned.answer at in
+    came-then first (steps_came {at = next} {line = line ++ spelled first.records} trace cs bytes first.reached (came-fit f first) h.1)
 
 -- Of calls joined, the first are calls, and the others go on where they left off.
 pub steps_split : (trace : List ℕ) (at : ℕ) (s : ReplayState) (earlier later : List StepCall) → Steps trace at s (earlier ++ later) →

@@ -134,16 +134,17 @@ module _ {line : List Symbol} {s : ReplayState} (f : Fit line s) where
 pub all_fit : {line : List Symbol} {s : ReplayState} (rs : List TraceRecord) → Fit line s → Fit (line ++ spelled rs) (played_all rs s).state
 unfolding played_all
 all_fit [] f = rw append-nil f
-all_fit (r ∷ rs) f = rw append_assoc at (all_fit rs (played-fit f r))
+all_fit {line = line} {s = s} (r ∷ rs) f =
+    rw append_assoc at (all_fit {line = line ++ spelled_by r} {s = (played r s).state} rs (played-fit f r))
 
 pub all-frames : {line : List Symbol} {s : ReplayState} (rs : List TraceRecord) → Fit line s →
     frames_of (scan 0 0 (line ++ spelled rs)).frames ≡ frames_of (scan 0 0 line).frames ++ (played_all rs s).frames
 unfolding played_all
-all-frames {line} [] f = rw (append-nil line, append-nil)
-all-frames {line} {s} (r ∷ rs) f =
+all-frames {line = line} [] f = rw (append-nil line, append-nil)
+all-frames {line = line} {s = s} (r ∷ rs) f =
     let more : frames_of (scan 0 0 (line ++ spelled_by r ++ spelled rs)).frames
     ≡ frames_of (scan 0 0 (line ++ spelled_by r)).frames ++ (played_all rs (played r s).state).frames =
-    all-frames rs (played-fit f r) in
+    all-frames {line = line ++ spelled_by r} {s = (played r s).state} rs (played-fit f r) in
     rw (← append_assoc line (spelled_by r) (spelled rs), more, played-frames f r) (append_assoc (frames_of (scan 0 0 line).frames) (played r s).frames _)
 
 -- Records played and then more.
