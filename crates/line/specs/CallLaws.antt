@@ -1,5 +1,5 @@
 -- Laws of one call of a receiver that has heard a line: what it answers, what it hands on, and that it has then heard one symbol more.
-use Rattle.std.specs.Prelude.{ℕ, ◌≤◌, ◌<◌, ◌≡◌, refl, Bool, true, false, List, [], ◌∷◌, ◌++◌, map, length, drop, leb}
+use Rattle.std.specs.Prelude.{ℕ, ◌≤◌, ◌<◌, ◌≡◌, refl, Bool, true, false, List, [], ◌∷◌, ◌++◌, length, drop, leb}
 use Rattle.std.proofs.Common.{arith, ap, ◌∙◌, append-nil, append_assoc, length-append, length-drop, leb-true, leb-false}
 use Rattle.std.proofs.lemmas.List.{length-replicate}
 use Rattle.std.proofs.Math.Seq.{take-append_seam}
@@ -8,7 +8,7 @@ use Rattle.laws.specs.Test.{pick}
 use Rattle.frame.specs.Recognition.{recognised}
 use Rattle.frame.specs.RecognitionLaws.{open_most}
 use Rattle.line_verdict.specs.VerdictLaws.{within_as}
-use Rattle.line_terms.specs.Line.{Symbol, byte}
+use Rattle.line_terms.specs.Line.{Symbol}
 use Rattle.line_terms.specs.Places.{Found, joined}
 use Rattle.line_terms.specs.PlaceLaws.{joined-append}
 use Rattle.line_terms.specs.Scan.{scan}

@@ -1,5 +1,5 @@
 -- The receiver's refusals in document 01's words, for any receiver, symbol and memory.
-use Rattle.std.specs.Prelude.{ℕ, ◌≤◌, ◌<◌, ◌≡◌, refl, ◌↔◌, ◌⊎◌, true, false, List, length, leb}
+use Rattle.std.specs.Prelude.{ℕ, ◌≤◌, ◌<◌, ◌≡◌, refl, ◌↔◌, ◌⊎◌, true, List, length, leb}
 use Rattle.std.proofs.Common.{arith, sym, subst, ◌∙◌, inl, inr, leb-true, leb-false}
 use Rattle.std.proofs.lemmas.Bool.{false≢true}
 use Rattle.laws.specs.Memory.{Outcome, outcome, LeftAlone}
