@@ -1,5 +1,7 @@
 // Frames of DL/T 645-2007, as document 01, "A frame", has them: the checksum, and the recognition of bytes as a frame. Nothing here
 // looks at what a control code or an address means.
+#![tactic(auto)]
+
 pub mod delivery;
 pub mod refusal;
 
