@@ -1,5 +1,7 @@
 // What a meter holds: the value of each item, the ranges that document 01 sets, and the registers of a fresh meter. Of a meter only
 // its address and its registers are looked at, beside both directions' readings.
+#![tactic(auto)]
+
 mod columns;
 mod location;
 
@@ -41,6 +43,7 @@ pub fn fresh_registers() -> [u8; 21]
 }
 
 // Whether what a meter holds is within document 01's ranges: the address good, every register decimal, every reading in range.
+#[tactic(auto, unfolding(crate::specs::Holding::within_ranges))]
 pub fn within_ranges(address: [u8; 6], registers: [u8; 21], forward: &Rows, reverse: &Rows) -> bool
     ensures { result ≡ within_ranges address registers forward.now reverse.now }
 {
@@ -57,6 +60,7 @@ pub fn within_ranges(address: [u8; 6], registers: [u8; 21], forward: &Rows, reve
 }
 
 // Writes the value held for an item to the front of the output buffer.
+#[tactic(auto, unfolding(crate::specs::Holding::value_held, crate::specs::Holding::held_at))]
 fn write_held(
     item: Item,
     address: [u8; 6],
@@ -96,6 +100,7 @@ fn write_held(
 }
 
 // Writes the value held for an identifier to the front of the output buffer.
+#[tactic(auto, unfolding(crate::specs::Holding::value_written))]
 pub fn write_value(
     identifier: u32,
     address: [u8; 6],
@@ -128,6 +133,7 @@ fn put(registers: [u8; 21], at: usize, value: &[u8]) -> [u8; 21]
 }
 
 // The registers with another value of an identifier; as they were where it is no register, or the value not as long.
+#[tactic(auto, unfolding(crate::specs::Holding::registers_after, crate::specs::Holding::registers_with))]
 pub fn with_value(registers: [u8; 21], identifier: u32, value: &[u8]) -> [u8; 21]
     ensures { result ≡ registers_after identifier value.now registers }
 {

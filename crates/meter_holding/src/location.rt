@@ -19,6 +19,7 @@ pub enum Location {
 }
 
 // The location of each kind of item. No two registers of listed items share a byte.
+#[tactic(auto, unfolding(crate::specs::Holding::location_of))]
 pub(crate) fn location_of(kind: Kind) -> Location
     ensures { result ≡ location_of kind }
 {
