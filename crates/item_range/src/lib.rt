@@ -1,4 +1,6 @@
 // A number in a range, both ends of it among it.
+#![tactic(auto)]
+
 ghost use Rattle.std.specs.Prelude.{◌≡◌};
 ghost use Rattle.item_range.specs.Range.{within};
 
