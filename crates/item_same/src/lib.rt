@@ -1,4 +1,6 @@
 // Bytes compared.
+#![tactic(auto)]
+
 ghost use Rattle.std.specs.Prelude.{◌≡◌};
 ghost use Rattle.item_same.specs.Same.{same};
 
