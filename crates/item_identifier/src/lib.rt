@@ -1,4 +1,6 @@
 // A data identifier and its four bytes, DI0 first, shared by the meter and the reader. As a number its highest byte is DI3.
+#![tactic(auto)]
+
 ghost use Rattle.std.specs.Prelude.{◌≡◌, ◌∷◌, []};
 ghost use Rattle.item_identifier.specs.Identifier.{identifier_of, identifier_bytes};
 
