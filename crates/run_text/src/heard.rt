@@ -5,7 +5,7 @@ use line::{Answer, Received, Receiver};
 
 // So many bytes of so many frames, end to end at the front of a buffer beside this. The largest number of bytes, which no buffer
 // has, says that a call was refused, or answered what cannot be, or that the text had something else than a symbol.
-#[derive(Drop)]
+#[derive(Clone, Copy)]
 pub struct Gathered {
     pub bytes: usize,
     pub frames: usize,
@@ -50,7 +50,7 @@ pub fn same(first: Gathered, first_bytes: &[u8], second: Gathered, second_bytes:
     if second_bytes.len() < b {
         return false;
     }
-    check::same(&first_bytes[..a], &second_bytes[..b])
+    first_bytes[..a] == second_bytes[..b]
 }
 
 // The receiver and what its calls have gathered.

@@ -1,4 +1,6 @@
 // What the test programs share: text read and written, memory filled and compared, counts, and lines heard by a receiver.
+#![tactic(auto)]
+
 pub mod count;
 pub mod heard;
 pub mod memory;

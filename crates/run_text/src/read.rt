@@ -1,5 +1,24 @@
-// Bytes in hexadecimal and numbers in decimal, read from text.
-ghost use Rattle.std.specs.Prelude.{◌<◌, ◌/◌, length};
+// Bytes in hexadecimal and numbers in decimal, read from text, and text read from standard input.
+ghost use Rattle.std.specs.Prelude.{◌<◌, ◌≤◌, ◌/◌, length};
+
+use std::io::{Read, Stdin};
+
+// Reads until the buffer is full, the input ends or a read fails, and returns how many bytes it put at the front of the buffer.
+pub fn read_input(mut from: Stdin, text: &mut [u8]) -> usize
+    ensures { result ≤ length text.new }
+{
+    let mut done = 0;
+    while done < text.len() {
+        let Ok(n) = from.read(&mut text[done..]) else {
+            return done;
+        };
+        if n == 0 {
+            return done;
+        }
+        done += n;
+    }
+    done
+}
 
 // What three characters write, of which the first is a blank: a byte in hexadecimal, or -- for a silence.
 #[derive(Drop)]
