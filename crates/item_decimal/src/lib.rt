@@ -1,4 +1,6 @@
 // Packed decimal numbers, low byte first: document 01, "All items are packed decimal".
+#![tactic(auto)]
+
 ghost use Rattle.std.specs.Prelude.{◌≡◌, true, length, ltb, ◌^◌, ◌≤◌};
 ghost use Rattle.laws.specs.Memory.{outcome};
 ghost use Rattle.item_decimal.specs.Decimal.{is_decimal, first_bad, all_decimal, digits, packing, unpacked, unpacking};
