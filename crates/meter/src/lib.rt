@@ -1,6 +1,8 @@
 // A meter of DL/T 645-2007: document 01, "What the meter holds" and "How the meter treats a frame". Every operation takes the
 // meter and both directions' readings by value, refuses with 16 what is outside document 01's ranges before anything else,
 // and hands the meter back, with the readings where it counts in them.
+#![tactic(auto)]
+
 mod answer;
 mod change;
 

@@ -4,12 +4,11 @@ use mathlib.Core.Path.{◌≡◌, refl, ap, sym, ◌∙◌}
 use mathlib.Core.List.{List, [], ◌∷◌, ◌++◌, append_assoc}
 use mathlib.Core.Bool.{true, false≢true}
 use native.Mathlib.Omega.{arith}
-use lib.ListN.{length, take, drop, get_or, length-append, length-set, length-take, length-drop}
+use lib.ListN.{length, take, drop, get_or, length-append, length-take, length-drop}
 use lib.Seq.{sets, length-sets, length-take-le, drop-cons}
 use borrow.Author.Tests.{eqb-true}
-use borrow.Author.Rules.{rules}
 use Rattle.laws.specs.Memory.{Outcome, outcome, over}
-use Rattle.laws.specs.MemoryLaws.{over-length, run-from}
+use Rattle.laws.specs.MemoryLaws.{run-from}
 use Rattle.laws.specs.JoinLaws.{two-over}
 use Rattle.item.specs.Table.{item_of}
 use Rattle.item.specs.TableLaws.{listed-fits}
@@ -26,10 +25,11 @@ use Rattle.meter_holding.specs.declared.Held.TheVariants.{Length}
 use Rattle.meter.specs.Meter.{MeterSized, value_held}
 use Rattle.meter.specs.MeterLaws.{value-length}
 use Rattle.meter.specs.Answer.{reply_data, value_asked}
-use Rattle.meter.proofs.answer.place_value.Statement.{statement}
-use Rattle.meter.proofs.answer.place_value.Tie as tie
+use borrow.Author.Rules.{rules}
+use Rattle.meter.proofs.answer.place_value.Goals as goal
+use Rattle.meter.proofs.answer.place_value.Goals.{After-write_value, Start}
 
-module _ (s : tie.Start) where
+module _ (s : Start) where
   abbrev payload : List ℕ
   payload = s.args.payload.now
 
@@ -43,12 +43,12 @@ module _ (s : tie.Start) where
   -- the checks that hold
   four : length payload ≡ 4
   unfolding checks_of
-  four = eqb-true _ _ s.pre.1.0
+  four = eqb-true _ _ s.requires.all_hold.0
 
   -- the item that is asked for
   found : (item : Item) × (item_of (identifier_of payload) ≡ Listed item)
   unfolding checks_of item_asked
-  found = go (item_of (identifier_of payload)) refl s.pre.1.1.0
+  found = go (item_of (identifier_of payload)) refl s.requires.all_hold.1.0
     where
       go : (l : Lookup) → item_of (identifier_of payload) ≡ l → is_listed l ≡ true → (item : Item) × (item_of (identifier_of payload) ≡ Listed item)
       go (Listed item) e h = (item, e)
@@ -79,13 +79,13 @@ module _ (s : tie.Start) where
   stored = sets memory 10 first
 
   in_place : stored ≡ over (take 10 memory ++ first) memory
-  in_place = run-from first memory 10 (omega (arith, s.pre.0.1))
+  in_place = run-from first memory 10 (omega (arith, s.requires.identifier_value.1))
 
   room : length stored ≡ length memory
   room = length-sets memory 10 first
 
   ten : length (take 10 memory) ≡ 10
-  ten = length-take-le 10 memory (omega (arith, s.pre.0.1))
+  ten = length-take-le 10 memory (omega (arith, s.requires.identifier_value.1))
 
   -- the data of the reply
   abbrev reply : List ℕ
@@ -111,60 +111,48 @@ module _ (s : tie.Start) where
       → take 14 stored ++ (back ++ drop (length stored - 14) (drop 14 stored)) ≡ over (take 10 memory ++ reply) memory
   behind back e =
       let long : length (take 10 memory ++ first) ≡ 14 = rw (length-append, ten) in
-      two-over 14 (take 10 memory ++ first) value memory in_place long (omega (arith, size, most, s.pre.0.1)) e
+      two-over 14 (take 10 memory ++ first) value memory in_place long (omega (arith, size, most, s.requires.identifier_value.1)) e
       ∙ ap (λ (l : List ℕ). over l memory) (append_assoc (take 10 memory) first value ∙ ap (λ (l : List ℕ). take 10 memory ++ l) together)
 
-  kept : length (over (take 10 memory ++ reply) memory) ≡ length memory
-  kept =
-      over-length (take 10 memory ++ reply) memory
-      (rw (length-append, ten, ← counted) (omega (arith, most, s.pre.0.1)))
+abbrev start_of : After-write_value → Start
+start_of c = (goal.at.After-write_value c).Start
 
-abbrev start_of : tie.After-write-value → tie.Start
-start_of c = c.before.before.before.before.before.before.before.before.before.before
-
-wrote : (c : tie.After-write-value) → let s = start_of c in
-    outcome c.write_value.result c.write_value.new.1.1.1.1.1.0
+wrote : (c : After-write_value) → let s = start_of c in
+    outcome c.write_value.result c.write_value.new.out
     ≡ outcome (Length (item s).length) (over (value s) (take (length (stored s) - 14) (drop 14 (stored s))))
 wrote c =
     let s = start_of c in
     let fits : (item s).length ≤ length (take (length (stored s) - 14) (drop 14 (stored s))) =
-    rw (length-take, length-drop) (omega (arith, room s, most s, s.pre.0.1)) in
+    rw (length-take, length-drop) (omega (arith, room s, most s, s.requires.identifier_value.1)) in
     c.write_value.ensures
-    ∙ value_written_lem _ (item s) (ap item_of s.pre.0.0 ∙ (found s).1) s.args.meter.address s.args.meter.registers s.args.forward.now
+    ∙ value_written_lem _ (item s) (ap item_of s.requires.identifier_value.0 ∙ (found s).1) s.args.meter.address s.args.meter.registers s.args.forward.now
     s.args.reverse.now _ fits
 
-answer : (c : tie.After-write-value) → c.write_value.result ≡ Length (item (start_of c)).length
+answer : (c : After-write_value) → c.write_value.result ≡ Length (item (start_of c)).length
 answer c = ap (λ (o : Outcome Held). o.answer) (wrote c)
 
 -- the memory with all of the data at their place
-abbrev left : tie.After-write-value → List ℕ
-left c = let o = stored (start_of c) in take 14 o ++ (c.write_value.new.1.1.1.1.1.0 ++ drop (length o - 14) (drop 14 o))
+abbrev left : After-write_value → List ℕ
+left c = let o = stored (start_of c) in take 14 o ++ (c.write_value.new.out ++ drop (length o - 14) (drop 14 o))
 
-placed : (c : tie.After-write-value) → let s = start_of c in left c ≡ over (take 10 (memory s) ++ reply s) (memory s)
+placed : (c : After-write_value) → let s = start_of c in left c ≡ over (take 10 (memory s) ++ reply s) (memory s)
 placed c = behind (start_of c) _ (ap (λ (o : Outcome Held). o.memory) (wrote c))
 
-returns : tie.Need-returns
+pub returns : goal.returns
 returns c =
-    let w = c.before.before in
+    let w = (goal.at.returns c).After-write_value in
     let s = start_of w in
     ap (λ (r : Held). outcome r (left w)) (answer w ∙ ap Length (asked s))
     ∙ ap (λ (l : List ℕ). outcome (Length (length (held s))) l) (placed w)
 
-pub place_value_spec : {M : Type 1} → statement M
-place_value_spec =
-    tie.close
-    (tie.spec
-    (λ c. omega (arith, four c.before.before.before))
-    (λ c. search rules)
-    (λ c. omega (arith, four c.before.before.before.before))
-    (λ c. simp length-set (omega arith))
-    (λ c. omega (arith, four c.before.before.before.before.before))
-    (λ c. simp length-set (omega arith))
-    (λ c. omega (arith, four c.before.before.before.before.before.before))
-    (λ c. simp length-set (omega arith))
-    (λ c. simp length-set (omega arith))
-    (λ c. simp length-set (omega arith))
-    (λ c. search rules)
-    (λ c κs. search rules)
-    (λ c. ap length (placed c.before.before) ∙ kept (start_of c.before.before))
-    returns)
+pub bounds-payload-0 : goal.bounds-payload-0
+bounds-payload-0 c = omega (arith, four (goal.at.bounds-payload-0 c).Start)
+
+pub bounds-payload-1 : goal.bounds-payload-1
+bounds-payload-1 c = omega (arith, four (goal.at.bounds-payload-1 c).Start)
+
+pub bounds-payload-2 : goal.bounds-payload-2
+bounds-payload-2 c = omega (arith, four (goal.at.bounds-payload-2 c).Start)
+
+pub bounds-payload-3 : goal.bounds-payload-3
+bounds-payload-3 c = omega (arith, four (goal.at.bounds-payload-3 c).Start)
