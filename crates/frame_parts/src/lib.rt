@@ -1,5 +1,7 @@
 // A frame written from its parts and taken apart: document 01, "A frame". Data are masked when they are written, and unmasked when
 // they are taken off.
+#![tactic(auto)]
+
 ghost use Rattle.std.specs.Prelude.{◌≡◌, ◌+◌, ◌≤◌, [], ◌∷◌, ◌++◌, map, length, take};
 ghost use Rattle.laws.specs.Memory.{outcome, over};
 ghost use Rattle.laws.specs.Part.{part};
@@ -19,6 +21,7 @@ pub enum Written {
 }
 
 // A data byte as it travels: with 33H added, wrapping at 256.
+#[tactic(auto, unfolding(frame::specs::Frame::masked))]
 fn mask(b: u8) -> u8
     ensures { result ≡ masked b }
 {
@@ -26,6 +29,7 @@ fn mask(b: u8) -> u8
 }
 
 // A data byte unmasked: with 33H taken off, wrapping at 256.
+#[tactic(auto, unfolding(frame::specs::Frame::unmasked))]
 pub fn unmask(b: u8) -> u8
     ensures { result ≡ unmasked b }
 {
