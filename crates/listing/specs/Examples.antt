@@ -1,6 +1,5 @@
 -- The two texts that document 01 gives, as what steps write in whole that bring its input and then the end.
-use Rattle.std.specs.Prelude.{ℕ, ◌≡◌, refl, List, [], ◌∷◌, ◌++◌, map}
-use Rattle.std.proofs.Common.{◌∙◌}
+use Rattle.std.specs.Prelude.{◌≡◌, List, [], ◌∷◌, ◌++◌, map}
 use Rattle.laws.specs.All.{AllOf}
 use Rattle.frame.specs.CaseFrames.{case_a, case_c}
 use Rattle.frame.specs.Frame.{total, checksum_of, unmasked, address_of, control_of, length_of, field_of, data_of}

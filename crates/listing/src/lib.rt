@@ -1,5 +1,7 @@
 // The line that the listing program of document 01 writes for a frame: the address high byte first, the control code and
 // the unmasked data, in capital hexadecimal digits.
+#![tactic(auto)]
+
 pub mod step;
 
 ghost use Rattle.std.specs.Prelude.{◌≡◌, map, reverse, ◌∷◌, ◌++◌, [], ◌+◌, ◌*◌, ◌≤◌, ◌<◌, length};
@@ -20,6 +22,7 @@ pub enum Listed {
 }
 
 // The capital hexadecimal digit of a half byte.
+#[tactic(auto, unfolding(crate::specs::Text::digit))]
 fn hex_digit(half: u8) -> u8
     requires { half < 16 }
     ensures { result ≡ digit half }
@@ -31,6 +34,7 @@ fn hex_digit(half: u8) -> u8
 }
 
 // The two digits of a byte, high half first, from place `at` on.
+#[tactic(auto, unfolding(crate::specs::Text::hex_of))]
 fn write_byte(b: u8, at: usize, out: &mut [u8])
     requires { at + 2 ≤ length out.old }
     ensures { out.new ≡ sets out.old at (hex_of b) }
@@ -99,6 +103,7 @@ fn write_tail(frame: &[u8], out: &mut [u8]) -> usize
 }
 
 // The length of the text of a frame with so many data bytes, its newline among it.
+#[tactic(auto, unfolding(crate::specs::Text::text_length))]
 fn text_length(data_length: u8) -> usize
     ensures { result ≡ text_length data_length }
 {
