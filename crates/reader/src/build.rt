@@ -25,6 +25,7 @@ pub(crate) fn sent_to(action: Action, address: [u8; 6]) -> [u8; 6]
 }
 
 // Puts a data identifier to the front of the memory.
+#[tactic(auto, unfolding(item_identifier::specs::Identifier::identifier_bytes))]
 fn put_identifier(identifier: u32, out: &mut [u8])
     requires { 4 ≤ length out.old }
     ensures { out.new ≡ over (identifier_bytes identifier) out.old }
@@ -62,6 +63,7 @@ fn put_write(request: Request, out: &mut [u8]) -> usize
 }
 
 // Puts the data of a request to the front of the memory, and answers how many they are.
+#[tactic(auto, unfolding(crate::specs::Building::sent_data))]
 fn put_data(request: Request, out: &mut [u8]) -> usize
     requires { Counts request.action request × (most_data ≤ length out.old) }
     ensures { Puts (sent_data request.action request) result out.old out.new }

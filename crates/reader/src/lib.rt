@@ -1,5 +1,7 @@
 // The reader's end of DL/T 645-2007: document 01, "The reader's end". One request value is built into bytes for the line, and
 // a reply is judged against the same value.
+#![tactic(auto)]
+
 mod build;
 
 ghost use Rattle.std.specs.Prelude.{◌≡◌, drop};
@@ -45,6 +47,7 @@ pub enum Built {
 }
 
 // Whether a reply to this request is judged: the request is allowed, and answered by one reply.
+#[tactic(auto, unfolding(crate::specs::Judging::is_judged, crate::specs::Allowed::is_allowed))]
 fn is_judged(request: Request) -> bool
     ensures { result ≡ is_judged request }
 {
@@ -82,6 +85,7 @@ fn deliver(decided: Judgement, start: usize, payload: &[u8], out: &mut [u8]) -> 
 impl Request {
     // Writes the request, with four FE in front, to the front of the output buffer, which stays as it was beyond it. Refused
     // with 1 under 66 bytes, then with 5.
+    #[tactic(auto, unfolding(crate::specs::Building::built, crate::specs::Allowed::is_allowed))]
     pub fn build(self, out: &mut [u8]) -> Built
         ensures { outcome result out.new ≡ built self out.old }
     {
@@ -112,6 +116,7 @@ impl Request {
 
     // Judges a reply to the request: its value goes to the front of the output buffer, which stays as it was beyond it.
     // Refused with 1 under 196 bytes, 5, 2, and then with 6, 7, 6, 7, as document 01 says.
+    #[tactic(auto, unfolding(crate::specs::Judging::judged, crate::specs::Judging::judgement_of, crate::specs::Judging::call_checks, crate::specs::Judging::frame_checks, crate::specs::Judging::is_answer, laws::specs::Checks::first_failing))]
     pub fn judge(self, bytes: &[u8], out: &mut [u8]) -> Judgement
         ensures { outcome result out.new ≡ judged self bytes.now out.old }
     {
