@@ -1,9 +1,12 @@
 // Writes, for each length from 0 to 260, the checksums of four slices of that many bytes of standard input, which begin at
 // its first four bytes, and how many slices of that length have the checksum 01 in zeros with a single 01 among them.
+#![tactic(auto)]
+
 use frame::checksum;
-use libc::STDIN_FILENO;
 use run_text::count::sum;
+use run_text::read::read_input;
 use run_text::write::{write, write_bytes, write_number};
+use std::io::Stdout;
 
 // The checksum of `n` bytes from `start` on, and 0 where there are not as many.
 fn checksum_at(bytes: &[u8], start: usize, n: usize) -> u8 {
@@ -33,29 +36,30 @@ fn slices_with_the_one(n: usize) -> usize {
 }
 
 // Writes the line of each length.
-fn say_lengths(bytes: &[u8]) {
+fn say_lengths(to: Stdout, bytes: &[u8]) {
     let mut n = 0;
     while n <= 260 {
-        write_number(n, b" bytes, ");
-        write_number(slices_with_the_one(n), b" with 01,");
+        write_number(to, n, b" bytes, ");
+        write_number(to, slices_with_the_one(n), b" with 01,");
         let sums = [
             checksum_at(bytes, 0, n),
             checksum_at(bytes, 1, n),
             checksum_at(bytes, 2, n),
             checksum_at(bytes, 3, n),
         ];
-        write_bytes(b"", &sums);
+        write_bytes(to, b"", &sums);
         n += 1;
     }
 }
 
 // Reads the bytes, of which there are to be 263.
-fn main() {
+fn main(rt: HostRuntime) {
+    let to = rt.stdout();
     let mut bytes = [0u8; 263];
-    let n = io::read_full(STDIN_FILENO, &mut bytes);
+    let n = read_input(rt.stdin(), &mut bytes);
     if n < bytes.len() {
-        write(b"too few bytes\n");
+        write(to, b"too few bytes\n");
         return;
     }
-    say_lengths(&bytes);
+    say_lengths(to, &bytes);
 }
