@@ -1,4 +1,6 @@
 // Communication addresses: six bytes, low byte first.
+#![tactic(auto)]
+
 ghost use Rattle.std.specs.Prelude.{◌≡◌};
 ghost use Rattle.item_address.specs.Address.{is_good, low_bytes, is_short, short_matches};
 

@@ -1,0 +1,42 @@
+-- The count was tested, which says whether the address has a short form; the bytes compared are those that `short_matches` compares.
+use Prim.Native.Nat.{◌≤◌}
+use mathlib.Core.Path.{◌≡◌, sym, ◌∙◌}
+use mathlib.Core.Bool.{true}
+use native.Mathlib.Omega.{arith}
+use lib.Seq.{length-take-le}
+use Rattle.item_range.specs.Range.{within}
+use Rattle.item_range.specs.RangeLaws.{within-iff}
+use Rattle.item_address.specs.Address.{short_matches}
+use Rattle.item_address.specs.LowBytesLaws.{short_form}
+use Rattle.item_address.proofs.short_matches.Goals as goal
+use Rattle.item_address.proofs.short_matches.Goals.{Else-not-is_within}
+
+-- the count is that of a short address
+short : (c : Else-not-is_within) → within 1 5 c.low_bytes-k.result ≡ true
+short c = sym c.is_within.ensures ∙ c.if-not-is_within.false
+
+most : (c : Else-not-is_within) → c.low_bytes-k.result ≤ 5
+most c = ((within-iff 1 5 _).0 (short c)).1
+
+pub returns-then-not-is_within : goal.returns-then-not-is_within
+unfolding short_matches
+returns-then-not-is_within c =
+    rw (short_form c.args.address c.low_bytes-k.ensures (sym c.is_within.ensures ∙ c.if-not-is_within.true))
+
+pub slice_bounds-address-end : goal.slice_bounds-address-end
+slice_bounds-address-end c = omega (arith, most c)
+
+pub slice_bounds-same_bytes-end : goal.slice_bounds-same_bytes-end
+slice_bounds-same_bytes-end c = sym (length-take-le _ _ (omega (arith, most (goal.at.slice_bounds-same_bytes-end c).Else-not-is_within)))
+
+pub slice_bounds-own-end : goal.slice_bounds-own-end
+slice_bounds-own-end c = omega (arith, most (goal.at.slice_bounds-own-end c).Else-not-is_within)
+
+pub slice_bounds-same_bytes-end-2 : goal.slice_bounds-same_bytes-end-2
+slice_bounds-same_bytes-end-2 c = sym (length-take-le _ _ (omega (arith, most (goal.at.slice_bounds-same_bytes-end-2 c).Else-not-is_within)))
+
+pub returns : goal.returns
+unfolding short_matches
+returns c =
+    let e = (goal.at.returns c).Else-not-is_within in
+    rw (short_form c.args.address c.low_bytes-k.ensures (short e), ← c.low_bytes-k.ensures) c.same_bytes.ensures
