@@ -1,5 +1,7 @@
 // What the kept bytes and the byte heard next come to. One pass over the kept bytes both checks that they are a proper
 // beginning of a frame and gives the verdict.
+#![tactic(auto)]
+
 ghost use Rattle.std.specs.Prelude.{◌≡◌, ◌≤◌, length, get_or};
 ghost use Rattle.line_verdict.specs.Verdict.{most_kept, within_range, judged, verdict_on, Headed};
 
