@@ -6,7 +6,6 @@ use Rattle.std.proofs.Common.{sym, subst, ◌∙◌, length-take-le}
 use mathlib.Core.List.{List, [], ◌∷◌}
 use native.Mathlib.Omega.{arith}
 use Rattle.frame.specs.Frame.{address_of, control_of, data_of, frame_for}
-use Rattle.laws.specs.Memory.{outcome}
 use Rattle.laws.specs.Checks.{first_failing}
 use Rattle.item_command.specs.Reply.{control_code, reply_to}
 use Rattle.item_same.specs.SameLaws.{equal-same}

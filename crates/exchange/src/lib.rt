@@ -1,6 +1,8 @@
 // Both ends and the line together: a request is built, heard byte by byte by a fresh receiver and handed to the meter, and the
 // reply is judged. Demand 2 of the letter is `demand_2` in specs/Demand2.antt; document 01's cases A to I are one table in the
 // crate `exchange_cases`.
+#![tactic(auto)]
+
 ghost use Rattle.std.specs.Prelude.{◌≡◌, ◌≤◌, length, drop};
 ghost use Rattle.laws.specs.Memory.{outcome, over};
 ghost use Rattle.frame.specs.Frame.{most_frame};
