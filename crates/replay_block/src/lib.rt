@@ -36,7 +36,7 @@ pub struct Begun {
 }
 
 // The answer to a block.
-#[derive(Drop)]
+#[derive(Clone, Copy)]
 pub enum BlockAnswer {
     // A refusal, by the papers' number: nothing is played, and nothing changed.
     Refused(u8),
