@@ -17,7 +17,6 @@ use Rattle.item_decimal.specs.Decimal.{Decimal}
 use Rattle.item_decimal.specs.DecimalLaws.{all-decimal, decimal-all}
 use Rattle.item_identifier.specs.Identifier.{identifier_of}
 use Rattle.item_identifier.specs.IdentifierLaws.{identifier-iff}
-use Rattle.item_same.specs.Same.{same}
 use Rattle.item_same.specs.SameLaws.{same-equal, equal-same}
 use Rattle.item_range.specs.RangeLaws.{within-iff}
 use Rattle.item.specs.Content.{content_is_allowed}

@@ -8,6 +8,7 @@ use crate::request::{Tested, check_of};
 use item_same::same_bytes;
 
 // Whether a password is that of a level.
+#[tactic(auto, unfolding(crate::specs::Decision::password_at))]
 fn has_password(passwords: [u8; 30], level: u8, password: &[u8]) -> bool
     requires { level ≤ 9 }
     ensures { result ≡ same password.now (password_at level passwords) }
@@ -18,6 +19,7 @@ fn has_password(passwords: [u8; 30], level: u8, password: &[u8]) -> bool
 }
 
 // The check that the level is at most `most` and the password of that level is right.
+#[tactic(auto, unfolding(crate::specs::Decision::authorised))]
 pub(crate) fn authority(passwords: [u8; 30], most: u8, level: u8, password: &[u8]) -> Tested
     requires { most ≤ 9 }
     ensures { result ≡ check_of (authorised most level password.now passwords) }
@@ -29,6 +31,7 @@ pub(crate) fn authority(passwords: [u8; 30], most: u8, level: u8, password: &[u8
 }
 
 // The check that the identifier is 04 00 0C n with n one more than the new level, 00 to 09.
+#[tactic(auto, unfolding(crate::specs::Decision::names_password))]
 pub(crate) fn names_password(identifier: u32, new: u8) -> Tested
     ensures { result ≡ check_of (names_password identifier new) }
 {

@@ -17,6 +17,7 @@ use item_command::reply::{NO_SUCH_DATA, NOT_AUTHORISED, OTHER_ERROR};
 use item_decimal::all_decimal;
 
 // 11: L = 4 (01); identifier in table (02).
+#[tactic(auto, unfolding(crate::specs::Decision::decided, crate::specs::Decision::checks_of, laws::specs::Checks::first_failing, crate::specs::Checks::read_request, crate::specs::Request::item_asked))]
 pub(crate) fn read_data(payload: &[u8]) -> Decision
     ensures { result ≡ decided Command.ReadData payload.now false [] }
 {
@@ -30,6 +31,7 @@ pub(crate) fn read_data(payload: &[u8]) -> Decision
 }
 
 // 13: L = 0, else silence.
+#[tactic(auto, unfolding(crate::specs::Decision::decided, crate::specs::Decision::checks_of, laws::specs::Checks::first_failing))]
 pub(crate) fn read_address(payload: &[u8]) -> Decision
     ensures { result ≡ decided Command.ReadAddress payload.now false [] }
 {
@@ -40,6 +42,7 @@ pub(crate) fn read_address(payload: &[u8]) -> Decision
 }
 
 // 14: 12 ≤ L ≤ 50 (01); identifier (02); writable (04); key on (04); level and password (04); data length (01); content (01).
+#[tactic(auto, unfolding(crate::specs::Decision::decided, crate::specs::Decision::checks_of, laws::specs::Checks::first_failing, crate::specs::Checks::write_request, crate::specs::Request::item_asked, crate::specs::Request::level_of, crate::specs::Request::password_of, crate::specs::Request::written_value))]
 pub(crate) fn write_data(payload: &[u8], key: bool, passwords: [u8; 30]) -> Decision
     ensures { result ≡ decided Command.WriteData payload.now key passwords }
 {
@@ -69,6 +72,7 @@ pub(crate) fn write_data(payload: &[u8], key: bool, passwords: [u8; 30]) -> Deci
 }
 
 // 15: L = 6, key on, new address good, else silence.
+#[tactic(auto, unfolding(crate::specs::Decision::decided, crate::specs::Decision::checks_of, laws::specs::Checks::first_failing))]
 pub(crate) fn write_address(payload: &[u8], key: bool) -> Decision
     ensures { result ≡ decided Command.WriteAddress payload.now key [] }
 {
@@ -87,6 +91,7 @@ pub(crate) fn write_address(payload: &[u8], key: bool) -> Decision
 }
 
 // 18: L = 12 (01); identifier (02); key on (04); old level and its password (04); new password decimal (01).
+#[tactic(auto, unfolding(crate::specs::Decision::decided, crate::specs::Decision::checks_of, laws::specs::Checks::first_failing, crate::specs::Checks::password_request, crate::specs::Request::level_of, crate::specs::Request::password_of, crate::specs::Request::new_level_of, crate::specs::Request::new_password_of))]
 pub(crate) fn change_password(payload: &[u8], key: bool, passwords: [u8; 30]) -> Decision
     ensures { result ≡ decided Command.ChangePassword payload.now key passwords }
 {

@@ -1,5 +1,7 @@
 // What a meter decides on a command: document 01's table of checks by control, of which the first failing one answers. Of a meter
 // only the programming key and the passwords are looked at.
+#![tactic(auto)]
+
 mod authority;
 mod commands;
 mod request;
@@ -30,6 +32,7 @@ pub enum Decision {
 }
 
 // The decision on a command with these data.
+#[tactic(auto, unfolding(crate::specs::Decision::decided, crate::specs::Decision::checks_of))]
 pub fn decide(command: Command, payload: &[u8], key: bool, passwords: [u8; 30]) -> Decision
     ensures { result ≡ decided command payload.now key passwords }
 {

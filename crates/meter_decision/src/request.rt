@@ -53,6 +53,7 @@ fn identifier_at(payload: &[u8]) -> u32
 }
 
 // The check of the length of 11.
+#[tactic(auto, unfolding(crate::specs::Checks::read_request))]
 pub(crate) fn read_request(payload: &[u8]) -> ReadRequest
     ensures { result ≡ read_request payload.now }
 {
@@ -63,6 +64,7 @@ pub(crate) fn read_request(payload: &[u8]) -> ReadRequest
 }
 
 // The check of the length of 14.
+#[tactic(auto, unfolding(crate::specs::Checks::write_request, crate::specs::Request::level_of))]
 pub(crate) fn write_request(payload: &[u8]) -> WriteRequest
     ensures { result ≡ write_request payload.now }
 {
@@ -76,6 +78,7 @@ pub(crate) fn write_request(payload: &[u8]) -> WriteRequest
 }
 
 // The check of the length of 18.
+#[tactic(auto, unfolding(crate::specs::Checks::password_request, crate::specs::Request::level_of, crate::specs::Request::new_level_of))]
 pub(crate) fn password_request(payload: &[u8]) -> PasswordRequest
     ensures { result ≡ password_request payload.now }
 {
