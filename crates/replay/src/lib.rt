@@ -1,6 +1,8 @@
 // The replay of a recorded line: document 02, W1. A trace is played record by record into a fresh receiver and a fresh meter of an address;
 // each frame that the receiver delivers is put to the meter, and each reply is listed. That the replies and the meter at the end are those of
 // the calls made by hand is `replayed_by_hand` in specs/Replayed.antt.
+#![tactic(auto)]
+
 pub mod host;
 mod play;
 

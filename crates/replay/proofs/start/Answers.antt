@@ -1,0 +1,7 @@
+-- The parts are those of a fresh receiver and a fresh meter.
+use Rattle.replay.specs.Replay.{started}
+use Rattle.replay.proofs.start.Goals as goal
+
+pub returns : goal.returns
+unfolding started
+returns c = rw (c.new-receiver.ensures, c.fresh-created.ensures)
