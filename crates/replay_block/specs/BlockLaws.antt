@@ -73,7 +73,7 @@ rest-few rest ends stops on = by (front_of rest) refl on
     none-few : {other : List ℕ} → FrontCase other front.Ended → length other ≤ 6
     none-few ended = omega arith
 
-    refused-few : {n : ℕ} → FrontCase rest (front.Refused n) → is_stop (front.Refused n) ends ≡ false → length rest ≤ 6
+    refused-few : {other : List ℕ} {n : ℕ} → FrontCase other (front.Refused n) → is_stop (front.Refused n) ends ≡ false → length other ≤ 6
     refused-few (no_kind k) on = let z : ◌≡◌ {A = ℕ} 0 1 = cc in absurd (omega arith)
     refused-few (cut_off_lem k) on = cut-few k
     refused-few (bad-field k) on = let z : ◌≡◌ {A = ℕ} 0 1 = cc in absurd (omega arith)

@@ -171,9 +171,9 @@ module _ (before : List ℕ) (s : Session) (c : BlockCall) (h : IsBlock s c) whe
 pub calls_came : {before : List ℕ} {s : Session} (calls : List BlockCall) → NumbersFit s → OfBytes calls → BlockCalls before s calls →
     Came before s (trace_of calls) (text_of calls) (kept_after before calls) (session_after s calls)
 calls_came [] fits bytes h = came_nowhere _ _ fits
-calls_came {before} {s} (c ∷ cs) fits bytes h =
+calls_came {before = before} {s = s} (c ∷ cs) fits bytes h =
     let first = call-came before s c h.0 fits bytes.0 h.1 in
-    came-then first (calls_came cs (came-fits first) bytes.1 h.2)
+    came-then first (calls_came {before = kept_by c.returned.answer before c} {s = c.returned.session} cs (came-fits first) bytes.1 h.2)
 
 -- No good record stands at the front of what is kept after them.
 calls_stop : (before : List ℕ) (s : Session) (calls : List BlockCall) → Stops before → BlockCalls before s calls → Stops (kept_after before calls)
