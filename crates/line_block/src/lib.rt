@@ -1,5 +1,7 @@
 // The reading of a block of bytes, straight from a slice: document 01, "Reading of the line", without a receiver. The receiver
 // reads so what it keeps, and a recorded line is read so in blocks.
+#![tactic(auto)]
+
 mod start;
 
 ghost use Rattle.std.specs.Prelude.{◌≡◌, ◌≤◌, length};
