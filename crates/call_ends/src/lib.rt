@@ -1,4 +1,6 @@
 // Each end's calls as C functions: structs by value, enums and refusals as numbers. This is what the benchmark links.
+#![tactic(auto)]
+
 pub mod request;
 
 ghost use Rattle.std.specs.Prelude.{◌≡◌};

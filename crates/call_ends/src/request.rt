@@ -21,6 +21,7 @@ pub struct AskedRequest {
 }
 
 // What a control asks for.
+#[tactic(auto, unfolding(crate::specs::Numbers::action_of))]
 fn action_of(control: u8) -> Action
     ensures { result ≡ action_of control }
 {
@@ -33,6 +34,7 @@ fn action_of(control: u8) -> Action
 
 impl AskedRequest {
     // The request of the reader's end.
+    #[tactic(auto, unfolding(crate::specs::Numbers::request_of))]
     pub fn as_request(self) -> Request
         ensures { result ≡ request_of self }
     {
