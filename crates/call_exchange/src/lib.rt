@@ -1,5 +1,7 @@
 // Both ends' exchange as a C function, beside the calls of each end: structs by value, enums and refusals as numbers. It is an archive
 // of its own, since a program that has both an exchange and a call of `answer` does not make that call a part of itself.
+#![tactic(auto)]
+
 ghost use Rattle.std.specs.Prelude.{◌≡◌};
 ghost use Rattle.exchange.specs.Exchange.{memories, exchanged};
 ghost use Rattle.call_ends.specs.Numbers.{request_of};
