@@ -1,4 +1,6 @@
 // The checksum as a C function, so that the benchmark can count it by itself.
+#![tactic(auto)]
+
 ghost use Rattle.std.specs.Prelude.{◌≡◌};
 ghost use Rattle.frame.specs.Frame.{checksum_of};
 
