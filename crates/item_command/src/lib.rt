@@ -1,5 +1,7 @@
 // Commands of DL/T 645-2007, shared by the meter and the reader: document 01, "How the meter treats a frame". The control codes of
 // commands and of replies, the error bytes, and whom a frame with a command is for.
+#![tactic(auto)]
+
 pub mod reply;
 
 ghost use Rattle.std.specs.Prelude.{◌≡◌};
@@ -43,6 +45,7 @@ pub enum Asked {
 }
 
 // The command of a control code.
+#[tactic(auto, unfolding(crate::specs::Command::command_of))]
 pub fn command_of(control: u8) -> Asked
     ensures { result ≡ command_of control }
 {
