@@ -1,4 +1,6 @@
 // The calendar of the years 2000 to 2099: document 02, W3. Which numbers are a date, and the weekday of a date.
+#![tactic(auto)]
+
 ghost use Rattle.std.specs.Prelude.{◌≡◌, ◌≤◌};
 ghost use Rattle.item_calendar.specs.Calendar.{is_leap, month_length, is_date, days_of_months, weekday_of, falls_on};
 ghost use Rattle.item_calendar.specs.CalendarLaws.{Tested};
@@ -6,7 +8,7 @@ ghost use Rattle.item_calendar.specs.CalendarLaws.{Tested};
 use item_range::is_within;
 
 // A year by its two digits YY, a month and a day of it, both from 1.
-#[derive(Drop)]
+#[derive(Clone, Copy)]
 pub struct Date {
     pub year: usize,
     pub month: usize,
