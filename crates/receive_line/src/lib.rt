@@ -1,5 +1,7 @@
 // A whole recorded line, its end taken as a silence, as one C function: through the receiver's calls, and straight from the
 // slice. Both are held to one definition, so that they answer alike on every line. This is what the benchmark links.
+#![tactic(auto)]
+
 ghost use Rattle.std.specs.Prelude.{◌≡◌, ◌++◌, map, ◌+◌, ◌≤◌, length, take};
 ghost use Rattle.laws.specs.Memory.{outcome, over};
 ghost use Rattle.line_terms.specs.Line.{byte};
