@@ -1,4 +1,6 @@
 // The address that the replay program is given, read from its digits.
+#![tactic(auto)]
+
 ghost use Rattle.std.specs.Prelude.{◌≡◌};
 ghost use Rattle.laws.specs.All.{all_of};
 ghost use Rattle.replay_address.specs.Digits.{is_digit};
@@ -14,6 +16,7 @@ pub struct ReadAddress {
 }
 
 // Whether a byte is a digit, 0 to 9.
+#[tactic(auto, unfolding(crate::specs::Digits::is_digit))]
 fn is_digit(b: u8) -> bool
     ensures { result ≡ is_digit b }
 {
@@ -34,6 +37,7 @@ fn all_digits(text: &[u8]) -> bool
 }
 
 // Two digits as one byte, the first in the higher half: the number of a digit is the low half of its character.
+#[tactic(auto, unfolding(crate::specs::Address::pair_of))]
 fn pair(high: u8, low: u8) -> u8
     ensures { result ≡ pair_of high low }
 {
