@@ -1,8 +1,8 @@
 // A vector: `NAME: SYMBOLS > EXPECTED / COUNT`. The symbols are bytes in hexadecimal, or -- for a silence, each after a
 // blank; expected are the bytes that all calls together hand on, and the number of frames that they report.
-use slice_bytes::find;
 use run_text::heard::{Gathered, hear_text, same};
 use run_text::read::{BytesRead, read_bytes, read_numbers};
+use slice_bytes::find;
 
 // The bytes, which go to the front of the buffer, and the number of frames that are expected; wrong where the text has others.
 fn expected(bytes: &[u8], count: &[u8], buffer: &mut [u8]) -> Gathered {
@@ -34,13 +34,13 @@ pub fn run(vector: &[u8], colon: usize) -> bool {
     if slash == n {
         return false;
     }
-    let mut bytes = io::buffer();
+    let mut bytes = [0u8; 4096];
     let all = expected(
         &vector[greater + 1..slash],
         &vector[slash + 1..],
         &mut bytes,
     );
-    let mut delivered = io::buffer();
+    let mut delivered = [0u8; 4096];
     let heard = hear_text(&vector[colon + 1..greater], &mut delivered);
     same(all, &bytes, heard, &delivered)
 }
