@@ -1,40 +1,44 @@
 // Reads a recorded line, which is given on standard input, through the receiver's calls, in one block, and in blocks of 1 to
 // 300 bytes, and says whether each way delivers the same frames. It lists the frames that the calls deliver, and gives the
 // line's first bytes to every call that can refuse them.
+#![tactic(auto)]
+
 mod blocks;
 mod refusals;
 
 use frame::delivery::next_end;
-use libc::STDIN_FILENO;
 use run_text::count::Tally;
 use run_text::heard::{Gathered, hear_bytes, same};
+use run_text::read::read_input;
 use run_text::write::{write, write_either, write_frame, write_numbered, write_two};
+use std::io::Stdout;
 
 // Writes the line of each of the frames, which stand end to end.
-fn say_frames(frames: &[u8]) {
+fn say_frames(to: Stdout, frames: &[u8]) {
     let mut at = 0;
     while at < frames.len() {
         let next = next_end(frames, at);
-        write_frame(&frames[at..next]);
+        write_frame(to, &frames[at..next]);
         at = next;
     }
 }
 
 // Lists what the calls delivered, and writes how much it is.
-fn say_gathered(gathered: Gathered, out: &[u8]) {
+fn say_gathered(to: Stdout, gathered: Gathered, out: &[u8]) {
     let n = gathered.bytes;
     if out.len() < n {
-        write(b"a call was refused\n");
+        write(to, b"a call was refused\n");
         return;
     }
-    say_frames(&out[..n]);
-    write_two(gathered.frames, b" frames, ", n, b" bytes\n");
+    say_frames(to, &out[..n]);
+    write_two(to, gathered.frames, b" frames, ", n, b" bytes\n");
 }
 
 // Reads the line in one block, and writes whether it delivers the same.
-fn compare_whole(line: &[u8], expected: Gathered, frames: &[u8], out: &mut [u8]) {
+fn compare_whole(to: Stdout, line: &[u8], expected: Gathered, frames: &[u8], out: &mut [u8]) {
     let whole = blocks::read_whole(line, out);
     write_either(
+        to,
         same(expected, frames, whole, out),
         b"one block: the same\n",
         b"one block: differs\n",
@@ -52,6 +56,7 @@ fn last_bytes(size: usize, with_last: bool) -> usize {
 // Reads the line in blocks of 1 to 300 bytes, and writes how many sizes deliver the same; one that does not is named. The end
 // comes with the last bytes or in a call of its own.
 fn compare_sizes(
+    to: Stdout,
     words: &[u8],
     line: &[u8],
     with_last: bool,
@@ -65,23 +70,24 @@ fn compare_sizes(
         let read = blocks::read_blocks(line, size, last_bytes(size, with_last), out);
         let good = same(expected, frames, read, out);
         if !good {
-            write_numbered(b"blocks of this size differ: ", size);
+            write_numbered(to, b"blocks of this size differ: ", size);
         }
         tally = tally.counted(good);
         size += 1;
     }
-    write(words);
-    write_two(tally.same, b" the same, ", tally.differ, b" differ\n");
+    write(to, words);
+    write_two(to, tally.same, b" the same, ", tally.differ, b" differ\n");
 }
 
 // Reads the line in every way.
-fn compare(line: &[u8]) {
-    let mut frames = io::large_buffer();
-    let mut out = io::large_buffer();
+fn compare(to: Stdout, line: &[u8]) {
+    let mut frames = [0u8; 65536];
+    let mut out = [0u8; 65536];
     let expected = hear_bytes(line, &mut frames);
-    say_gathered(expected, &frames);
-    compare_whole(line, expected, &frames, &mut out);
+    say_gathered(to, expected, &frames);
+    compare_whole(to, line, expected, &frames, &mut out);
     compare_sizes(
+        to,
         b"blocks of 1 to 300 bytes: ",
         line,
         false,
@@ -90,6 +96,7 @@ fn compare(line: &[u8]) {
         &mut out,
     );
     compare_sizes(
+        to,
         b"ended with their last bytes: ",
         line,
         true,
@@ -97,16 +104,17 @@ fn compare(line: &[u8]) {
         &frames,
         &mut out,
     );
-    refusals::refuse(line);
+    refusals::refuse(to, line);
 }
 
 // Reads the whole line, of less than 32,768 bytes, and compares.
-fn main() {
+fn main(rt: HostRuntime) {
+    let to = rt.stdout();
     let mut line = [0u8; 32768];
-    let n = io::read_full(STDIN_FILENO, &mut line);
+    let n = read_input(rt.stdin(), &mut line);
     if n == line.len() {
-        write(b"too long a line\n");
+        write(to, b"too long a line\n");
         return;
     }
-    compare(&line[..n]);
+    compare(to, &line[..n]);
 }
