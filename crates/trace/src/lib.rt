@@ -1,5 +1,7 @@
 // The records of a trace: document 02, W1. A head stores what came over its line and what its host did: a kind byte, then its body, one
 // record behind the other. Here a trace is read record by record; nothing is played.
+#![tactic(auto)]
+
 ghost use Rattle.std.specs.Prelude.{◌≡◌, ◌∷◌, drop};
 ghost use Rattle.trace.specs.Trace.{front_of};
 
