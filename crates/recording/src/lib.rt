@@ -2,6 +2,8 @@
 // put behind those kept from the step before, delivers the frames that became certain with them, and keeps the unfinished rest
 // at the front of the buffer. What every list of steps from a buffer that keeps nothing delivers and keeps is `blocks_due` in
 // specs/Blocks.antt.
+#![tactic(auto)]
+
 ghost use Rattle.std.specs.Prelude.{◌≡◌, ◌≤◌, length};
 ghost use Rattle.slice_bytes.specs.Place.{slice};
 ghost use Rattle.laws.specs.Memory.{over};
