@@ -66,6 +66,7 @@ fn energy(direction: u8, t: u32, s: u32) -> Lookup
 }
 
 // The table's row for a data identifier, a number whose highest byte is DI3 and whose lowest is DI0.
+#[tactic(auto, unfolding(crate::specs::Table::item_of, crate::specs::Table::found, crate::specs::Table::other_rows))]
 pub fn item_of(identifier: u32) -> Lookup
     ensures { result ≡ item_of identifier }
 {
