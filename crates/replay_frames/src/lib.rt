@@ -1,5 +1,7 @@
 // The frames of a delivery put to a meter: document 02, W1, "sends each frame handed on to the meter, and lists each reply as the listing
 // program does". Each frame goes to the meter that the last one left.
+#![tactic(auto)]
+
 ghost use Rattle.std.specs.Prelude.{◌≡◌, ◌*◌, ◌≤◌, length};
 ghost use Rattle.laws.specs.Memory.{outcome};
 ghost use Rattle.replay_frames.specs.Putting.{refused_put, one_put, frames_put};
