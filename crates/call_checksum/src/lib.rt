@@ -5,8 +5,7 @@ ghost use Rattle.std.specs.Prelude.{◌≡◌};
 ghost use Rattle.frame.specs.Frame.{checksum_of};
 
 // The sum of the bytes, wrapping at 256.
-#[unsafe(no_mangle)]
-pub extern "C" fn call_checksum(bytes: &[u8]) -> u8
+pub fn call_checksum(bytes: &[u8]) -> u8
     ensures { result ≡ checksum_of bytes.now }
 {
     frame::checksum(bytes)

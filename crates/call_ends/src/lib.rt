@@ -149,8 +149,7 @@ fn built_as(built: Built) -> RequestBuilt
 }
 
 // The meter's answer to a frame, by `meter::Meter::answer`.
-#[unsafe(no_mangle)]
-pub extern "C" fn call_answer(
+pub fn call_answer(
     meter: Meter,
     energies: Energies,
     bytes: &[u8],
@@ -162,8 +161,7 @@ pub extern "C" fn call_answer(
 }
 
 // The key set, by `meter::Meter::set_key`.
-#[unsafe(no_mangle)]
-pub extern "C" fn call_set_key(meter: Meter, energies: Energies, on: bool) -> MeterSet
+pub fn call_set_key(meter: Meter, energies: Energies, on: bool) -> MeterSet
     ensures { result ≡ meter_set_of (key_set on meter energies.forward energies.reverse) }
 {
     let set = meter.set_key(energies.forward_rows(), energies.reverse_rows(), on);
@@ -176,8 +174,7 @@ pub extern "C" fn call_set_key(meter: Meter, energies: Energies, on: bool) -> Me
 }
 
 // A pulse counted, by `meter::Meter::pulse`.
-#[unsafe(no_mangle)]
-pub extern "C" fn call_pulse(
+pub fn call_pulse(
     meter: Meter,
     energies: Energies,
     amount: u32,
@@ -196,8 +193,7 @@ pub extern "C" fn call_pulse(
 }
 
 // A settlement, by `meter::Meter::settle`.
-#[unsafe(no_mangle)]
-pub extern "C" fn call_settle(meter: Meter, energies: Energies) -> MeterCounted
+pub fn call_settle(meter: Meter, energies: Energies) -> MeterCounted
     ensures { result ≡ meter_counted_of (settled_by meter energies.forward energies.reverse) }
 {
     let forward = energies.forward_rows();
@@ -206,16 +202,14 @@ pub extern "C" fn call_settle(meter: Meter, energies: Energies) -> MeterCounted
 }
 
 // A request built, by `reader::Request::build`.
-#[unsafe(no_mangle)]
-pub extern "C" fn call_build(request: AskedRequest, out: &mut [u8]) -> RequestBuilt
+pub fn call_build(request: AskedRequest, out: &mut [u8]) -> RequestBuilt
     ensures { outcome result out.new ≡ told request_built_of (built (request_of request) out.old) }
 {
     built_as(request.as_request().build(out))
 }
 
 // A reply judged, by `reader::Request::judge`.
-#[unsafe(no_mangle)]
-pub extern "C" fn call_judge(request: AskedRequest, bytes: &[u8], out: &mut [u8]) -> ReplyJudged
+pub fn call_judge(request: AskedRequest, bytes: &[u8], out: &mut [u8]) -> ReplyJudged
     ensures { outcome result out.new ≡ told reply_judged_of (judged (request_of request) bytes.now out.old) }
 {
     judged_as(request.as_request().judge(bytes, out))

@@ -63,8 +63,7 @@ fn done_as(done: Exchanged) -> ExchangeDone
 }
 
 // A request exchanged with a meter, by `exchange::exchange`.
-#[unsafe(no_mangle)]
-pub extern "C" fn call_exchange(
+pub fn call_exchange(
     request: AskedRequest,
     meter: Meter,
     energies: Energies,

@@ -66,8 +66,7 @@ fn receive_all(input: &[u8], out: &mut [u8]) -> Fed
 
 // Feeds a fresh receiver every byte of `input` and then a silence, writes all frames delivered end to end to the front of
 // `out`, and returns how many bytes they have. An `out` shorter than `input` is answered with the largest number.
-#[unsafe(no_mangle)]
-pub extern "C" fn receive_line(input: &[u8], out: &mut [u8]) -> usize
+pub fn receive_line(input: &[u8], out: &mut [u8]) -> usize
     ensures { outcome result out.new ≡ received_line input.now out.old }
 {
     if out.len() < input.len() {
@@ -85,8 +84,7 @@ pub extern "C" fn receive_line(input: &[u8], out: &mut [u8]) -> usize
 }
 
 // Reads `input` straight, as one block with which the line has ended, and answers as `receive_line` does.
-#[unsafe(no_mangle)]
-pub extern "C" fn read_line(input: &[u8], out: &mut [u8]) -> usize
+pub fn read_line(input: &[u8], out: &mut [u8]) -> usize
     ensures { outcome result out.new ≡ received_line input.now out.old }
 {
     let answer = line_block::read_block(input, true, out);
