@@ -1,9 +1,9 @@
-// One input, listed from a file descriptor up to its end: bytes are read and text is written in blocks.
+// One input, listed up to its end: bytes are read and text is written in blocks.
 ghost use Rattle.std.specs.Prelude.{◌≤◌, ◌<◌, ◌≡◌, length};
 ghost use Rattle.line_verdict.specs.Verdict.{most_kept};
 
-use libc::STDOUT_FILENO;
 use listing::step::StepListed;
+use std::io::{self, ErrorKind, Read, Stdout, Write};
 
 // How an input goes on.
 #[derive(Drop)]
@@ -13,9 +13,9 @@ pub(crate) enum Next {
     // It has ended, and every line is written.
     Ended,
     // It cannot be read.
-    Unread,
+    Unread(io::Error),
     // The lines cannot be written.
-    Unwritten,
+    Unwritten(io::Error),
 }
 
 // What a block of input leaves: how many bytes of its unfinished rest stand at the front of the buffer, and how the input goes on.
@@ -42,6 +42,7 @@ fn after(read: usize) -> Next {
 
 // Lists what stands at the front of the buffer, so many bytes kept and so many read, and writes their lines.
 fn list_read(
+    mut to: Stdout,
     kept: usize,
     read: usize,
     buffer: &mut [u8],
@@ -58,10 +59,10 @@ fn list_read(
     else {
         // This cannot come, and no contract says so: the bytes kept and read are within `buffer`, `main` gives `frames` the same
         // length and `text` twice that, and only where one of the three is too short is a step refused.
-        return stopped(Next::Unwritten);
+        return stopped(Next::Unwritten(io::Error::from(ErrorKind::Other)));
     };
-    if !io::write_all(STDOUT_FILENO, &text[..used]) {
-        return stopped(Next::Unwritten);
+    if let Err(error) = to.write_all(&text[..used]) {
+        return stopped(Next::Unwritten(error));
     }
     Progress {
         kept: left,
@@ -70,43 +71,41 @@ fn list_read(
 }
 
 // Reads behind the bytes kept, where there is always room, and lists.
-fn turn(fd: i32, kept: usize, buffer: &mut [u8], frames: &mut [u8], text: &mut [u8]) -> Progress
+fn turn<R: Read>(
+    from: &mut R,
+    to: Stdout,
+    kept: usize,
+    buffer: &mut [u8],
+    frames: &mut [u8],
+    text: &mut [u8],
+) -> Progress
     requires { (kept ≤ most_kept) × (most_kept < length buffer.old) }
     ensures { result.kept ≤ most_kept }
 {
-    let got = program_input::read_some(fd, &mut buffer[kept..]);
-    if got < 0 {
-        return stopped(Next::Unread);
+    match program_input::read_some(from, &mut buffer[kept..]) {
+        Ok(read) => list_read(to, kept, read, buffer, frames, text),
+        Err(error) => stopped(Next::Unread(error)),
     }
-    let read = io::count(got, &buffer[kept..]);
-    list_read(kept, read, buffer, frames, text)
 }
 
 // Lists the frames of the whole input, and says how it ended. A proved loop has to end, and nothing says that the input does: so
-// the loop counts its turns down, from a number that no run uses up.
-pub(crate) fn list_all(fd: i32, buffer: &mut [u8], frames: &mut [u8], text: &mut [u8]) -> Next
+// the loop counts its turns, up to a number that no run uses up.
+pub(crate) fn list_all<R: Read>(
+    from: &mut R,
+    to: Stdout,
+    buffer: &mut [u8],
+    frames: &mut [u8],
+    text: &mut [u8],
+) -> Next
     requires { most_kept < length buffer.old }
 {
     let mut kept = 0;
-    let mut turns = u64::MAX;
-    while 0 < turns {
-        let progress = turn(fd, kept, buffer, frames, text);
-        let next = progress.next;
-        match next {
-            Next::More => {
-                kept = progress.kept;
-            }
-            Next::Ended => {
-                return Next::Ended;
-            }
-            Next::Unread => {
-                return Next::Unread;
-            }
-            Next::Unwritten => {
-                return Next::Unwritten;
-            }
-        }
-        turns -= 1;
+    for _turn in 0..u64::MAX {
+        let progress = turn(from, to, kept, buffer, frames, text);
+        kept = progress.kept;
+        let Next::More = progress.next else {
+            return progress.next;
+        };
     }
     Next::More
 }
