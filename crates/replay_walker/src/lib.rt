@@ -1,6 +1,8 @@
 // The walker of a replay: document 02, W1. It holds the lent trace and its place in it; receiver, meter and readings travel beside it as one
 // value. Its functions take it apart, and `replay::step_at` does the work. A program holds no struct with a reference in it, and calls `walk_from`.
 // That the replies and the meter at the end are those of the calls made by hand is `walked_by_hand` in specs/Walked.antt.
+#![tactic(auto)]
+
 ghost use Rattle.std.specs.Prelude.{◌≡◌};
 ghost use Rattle.laws.specs.Memory.{outcome};
 ghost use Rattle.replay.specs.Replay.{stepped};
