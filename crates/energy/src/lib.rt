@@ -1,5 +1,7 @@
 // The readings of a meter: document 01, "for each direction there are thirteen rows of five readings". What a reading is, rows of them, and
 // both directions together. A host hands readings over by value, beside the meter; a test takes them lent.
+#![tactic(auto)]
+
 pub mod reading;
 pub mod rows;
 

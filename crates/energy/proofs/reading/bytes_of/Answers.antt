@@ -2,7 +2,6 @@
 use Prim.Native.Nat.{◌%◌, ◌^◌}
 use mathlib.Core.Path.{◌≡◌, ap, ◌∙◌}
 use native.Mathlib.Omega.{arith}
-use borrow.Author.Rules.{rules}
 use borrow.Author.Tests.{lt-ltb}
 use lib.ListN.{replicate}
 use Rattle.laws.specs.Memory.{Outcome, outcome}
@@ -10,16 +9,12 @@ use Rattle.item_decimal.specs.Decimal.{packing}
 use Rattle.item_decimal.specs.declared.Packed.{Packed}
 use Rattle.item_decimal.specs.declared.Packed.TheVariants.{Done}
 use Rattle.energy.specs.Reading.{Reading, reading_bytes}
-use Rattle.energy.proofs.reading.bytes_of.Statement.{statement}
-use Rattle.energy.proofs.reading.bytes_of.Tie as tie
+use Rattle.energy.proofs.reading.bytes_of.Goals as goal
 
 -- four bytes of memory take eight digits
 four_bytes : (reading : Reading) → packing (reading % 100000000) (replicate 4 0) ≡ outcome Done (reading_bytes reading)
 unfolding packing reading_bytes
 four_bytes reading = rw (lt-ltb (reading % 100000000) (100 ^ 4) (omega arith))
 
-returns : tie.Need-returns
-returns c = ap (λ (o : Outcome Packed). o.memory) (c.before.pack.ensures ∙ four_bytes _)
-
-pub bytes_of_spec : {M : Type 1} → statement M
-bytes_of_spec = tie.close (tie.spec (λ c. search rules) (λ c. search rules) (λ c κs. search rules) returns)
+pub returns : goal.returns
+returns c = ap (λ (o : Outcome Packed). o.memory) (c.pack.ensures ∙ four_bytes _)
