@@ -6,6 +6,7 @@ use reader::{Built, Request};
 use reader_judgement::{Action, Judgement};
 use run_text::memory::FILL;
 use run_text::write::write_bytes;
+use std::io::Stdout;
 
 // What a control asks for.
 fn action_of(control: u8) -> Action {
@@ -72,33 +73,33 @@ pub fn request_of(bytes: &[u8]) -> Request {
 }
 
 // Builds the request into an output buffer of so many bytes, and writes what is answered.
-pub fn build(request: Request, room: usize) {
+pub fn build(to: Stdout, request: Request, room: usize) {
     let size = lent(room);
     let mut out = [FILL; 256];
     let built = request.build(&mut out[0..size]);
     match built {
-        Built::Refused(refusal) => write_refused(refusal, &out),
-        Built::Length(length) => write_front(b"request", &out, length),
+        Built::Refused(refusal) => write_refused(to, refusal, &out),
+        Built::Length(length) => write_front(to, b"request", &out, length),
     }
 }
 
 // Writes what the reader made of a reply, with the value that it was given.
-pub(crate) fn write_judgement(judgement: Judgement, out: &[u8; 256]) {
+pub(crate) fn write_judgement(to: Stdout, judgement: Judgement, out: &[u8; 256]) {
     match judgement {
-        Judgement::Value(length) => write_front(b"value", out, length),
+        Judgement::Value(length) => write_front(to, b"value", out, length),
         Judgement::Error(byte) => {
             let bytes = [byte];
-            write_bytes(b"error", &bytes);
-            write_changed(out);
+            write_bytes(to, b"error", &bytes);
+            write_changed(to, out);
         }
-        Judgement::Refused(refusal) => write_refused(refusal, out),
+        Judgement::Refused(refusal) => write_refused(to, refusal, out),
     }
 }
 
 // Judges a reply in an output buffer of so many bytes, and writes what is answered.
-pub fn judge(request: Request, bytes: &[u8], room: usize) {
+pub fn judge(to: Stdout, request: Request, bytes: &[u8], room: usize) {
     let size = lent(room);
     let mut out = [FILL; 256];
     let judgement = request.judge(bytes, &mut out[0..size]);
-    write_judgement(judgement, &out);
+    write_judgement(to, judgement, &out);
 }

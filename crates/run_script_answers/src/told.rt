@@ -5,18 +5,26 @@ use meter::{FrameAnswer, Meter};
 use meter_counting::HostAnswer;
 use run_text::memory::FILL;
 use run_text::write::{write, write_bytes, write_either, write_numbered};
+use std::io::Stdout;
 
 // Writes the answer to a call of the host.
-pub fn write_answer(answer: HostAnswer) {
+pub fn write_answer(to: Stdout, answer: HostAnswer) {
     match answer {
-        HostAnswer::Done => write(b"done\n"),
-        HostAnswer::Refused(refusal) => write_numbered(b"refused ", refusal as usize),
+        HostAnswer::Done => write(to, b"done\n"),
+        HostAnswer::Refused(refusal) => write_numbered(to, b"refused ", refusal as usize),
     }
 }
 
 // Puts a frame to the meter with an output buffer of so many bytes, writes the answer, a reply behind the word or, with no word,
 // as a line of the listing, and returns the meter after it.
-pub fn tell(meter: Meter, energies: Energies, frame: &[u8], room: usize, word: &[u8]) -> Meter {
+pub fn tell(
+    to: Stdout,
+    meter: Meter,
+    energies: Energies,
+    frame: &[u8],
+    room: usize,
+    word: &[u8],
+) -> Meter {
     let size = lent(room);
     let forward = energies.forward_rows();
     let reverse = energies.reverse_rows();
@@ -24,21 +32,21 @@ pub fn tell(meter: Meter, energies: Energies, frame: &[u8], room: usize, word: &
     let answered = meter.answer(forward, reverse, frame, &mut out[0..size]);
     let answer = answered.answer;
     match answer {
-        FrameAnswer::Refused(refusal) => write_refused(refusal, &out),
-        FrameAnswer::Replied(length) => write_front(word, &out, length),
+        FrameAnswer::Refused(refusal) => write_refused(to, refusal, &out),
+        FrameAnswer::Replied(length) => write_front(to, word, &out, length),
     }
     answered.meter
 }
 
 // Writes what the meter holds besides its readings.
-pub fn show(meter: Meter) {
+pub fn show(to: Stdout, meter: Meter) {
     let address = meter.address;
     let passwords = meter.passwords;
     let operator = meter.operator;
     let registers = meter.registers;
-    write_bytes(b"address", &address);
-    write_either(meter.key, b"key on\n", b"key off\n");
-    write_bytes(b"passwords", &passwords);
-    write_bytes(b"operator", &operator);
-    write_bytes(b"registers", &registers);
+    write_bytes(to, b"address", &address);
+    write_either(to, meter.key, b"key on\n", b"key off\n");
+    write_bytes(to, b"passwords", &passwords);
+    write_bytes(to, b"operator", &operator);
+    write_bytes(to, b"registers", &registers);
 }
