@@ -10,7 +10,7 @@ use run_text::write::write_numbered;
 use std::io::Stdout;
 
 // The sizes of the output buffers of an exchange: for the request, for what the receiver delivers, for the reply and the value.
-#[derive(Drop)]
+#[derive(Clone, Copy)]
 pub struct Sizes {
     pub sent: usize,
     pub heard: usize,
