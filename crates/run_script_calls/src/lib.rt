@@ -1,6 +1,8 @@
 // A line of a script as a call: its word says which, and behind the word stand numbers in decimal or bytes in hexadecimal.
-use slice_bytes::find;
+#![tactic(auto)]
+
 use run_text::read::{BytesRead, Numbers, read_bytes, read_numbers};
+use slice_bytes::find;
 
 // Which call a line asks for.
 #[derive(Drop)]
@@ -54,7 +56,7 @@ pub fn place_among(words: &[u8], word: &[u8]) -> usize {
     let mut at = 0;
     while at < words.len() {
         let end = find(words, at, words.len(), b' ');
-        if check::same(&words[at..end], word) {
+        if &words[at..end] == word {
             return place;
         }
         place += 1;
