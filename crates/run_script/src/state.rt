@@ -8,6 +8,7 @@ use run_script_answers::told::write_answer;
 use run_script_answers::{asked, exchanged, told};
 use run_text::read::Numbers;
 use run_text::write::write_frame;
+use std::io::Stdout;
 
 // The meter, its readings, the size of the output buffer for a frame, the reader's request, and the sizes of an exchange's output
 // buffers.
@@ -86,75 +87,81 @@ impl State {
     }
 
     // With a fresh meter of an address, and an output buffer of 212 bytes.
-    pub fn meter(self, address: &[u8]) -> State {
+    pub fn meter(self, to: Stdout, address: &[u8]) -> State {
         let created = Meter::fresh(six_at(address, 0));
         let answer = created.answer;
-        write_answer(answer);
+        write_answer(to, answer);
         let meter = created.meter;
         let energies = created.energies;
         self.with_meter(meter).with_energies(energies).memory(212)
     }
 
     // After the key was set.
-    pub fn key(self, on: bool) -> State {
+    pub fn key(self, to: Stdout, on: bool) -> State {
         let meter = self.meter;
         let energies = self.energies;
         let set = meter.set_key(energies.forward_rows(), energies.reverse_rows(), on);
         let answer = set.answer;
-        write_answer(answer);
+        write_answer(to, answer);
         let next = set.meter;
         self.with_meter(next)
     }
 
     // After a pulse or a settlement.
-    fn counted(self, counted: Counted) -> State {
+    fn counted(self, to: Stdout, counted: Counted) -> State {
         let answer = counted.answer;
-        write_answer(answer);
+        write_answer(to, answer);
         let meter = counted.meter;
         let energies = counted.energies;
         self.with_meter(meter).with_energies(energies)
     }
 
     // After a pulse of an amount, in a direction and at a rate.
-    pub fn pulse(self, numbers: Numbers) -> State {
+    pub fn pulse(self, to: Stdout, numbers: Numbers) -> State {
         let meter = self.meter;
         let energies = self.energies;
         let direction = byte_of(numbers.c);
         let rate = byte_of(numbers.d);
         let forward = energies.forward_rows();
         let reverse = energies.reverse_rows();
-        self.counted(meter.pulse(forward, reverse, numbers.b, direction, rate))
+        self.counted(
+            to,
+            meter.pulse(forward, reverse, numbers.b, direction, rate),
+        )
     }
 
     // After a settlement.
-    pub fn settle(self) -> State {
+    pub fn settle(self, to: Stdout) -> State {
         let meter = self.meter;
         let energies = self.energies;
-        self.counted(meter.settle(energies.forward_rows(), energies.reverse_rows()))
+        self.counted(
+            to,
+            meter.settle(energies.forward_rows(), energies.reverse_rows()),
+        )
     }
 
     // After a frame.
-    pub fn frame(self, frame: &[u8]) -> State {
+    pub fn frame(self, to: Stdout, frame: &[u8]) -> State {
         let meter = self.meter;
         let energies = self.energies;
         let room = self.room;
-        let next = told::tell(meter, energies, frame, room, b"reply");
+        let next = told::tell(to, meter, energies, frame, room, b"reply");
         self.with_meter(next)
     }
 
     // After a frame, written with its reply as lines of the listing.
-    pub fn tell(self, frame: &[u8]) -> State {
-        write_frame(frame);
+    pub fn tell(self, to: Stdout, frame: &[u8]) -> State {
+        write_frame(to, frame);
         let meter = self.meter;
         let energies = self.energies;
-        let next = told::tell(meter, energies, frame, 212, b"");
+        let next = told::tell(to, meter, energies, frame, 212, b"");
         self.with_meter(next)
     }
 
     // As it is, and shown.
-    pub fn show(self) -> State {
+    pub fn show(self, to: Stdout) -> State {
         let meter = self.meter;
-        told::show(meter);
+        told::show(to, meter);
         self
     }
 
@@ -223,28 +230,28 @@ impl State {
     }
 
     // As it is, after the request was built.
-    pub fn build(self) -> State {
+    pub fn build(self, to: Stdout) -> State {
         let request = self.request;
         let room = self.room;
-        asked::build(request, room);
+        asked::build(to, request, room);
         self
     }
 
     // As it is, after a reply was judged.
-    pub fn judge(self, reply: &[u8]) -> State {
+    pub fn judge(self, to: Stdout, reply: &[u8]) -> State {
         let request = self.request;
         let room = self.room;
-        asked::judge(request, reply, room);
+        asked::judge(to, request, reply, room);
         self
     }
 
     // After an exchange of the request with the meter.
-    pub fn exchange(self) -> State {
+    pub fn exchange(self, to: Stdout) -> State {
         let request = self.request;
         let meter = self.meter;
         let energies = self.energies;
         let sizes = self.sizes;
-        let next = exchanged::exchange(request, meter, energies, sizes);
+        let next = exchanged::exchange(to, request, meter, energies, sizes);
         self.with_meter(next)
     }
 }
