@@ -1,9 +1,9 @@
 // The trace on standard input, replayed up to its end: bytes are read, played and their text is written in blocks.
 ghost use Rattle.std.specs.Prelude.{◌+◌, ◌*◌, ◌≤◌, ◌≡◌, length};
 
-use libc::{STDIN_FILENO, STDOUT_FILENO};
 use replay_block::{BlockAnswer, Session};
 use replay_end::is_last;
+use std::io::{self, Read, Stdout, Write};
 
 // How many bytes are read at a time.
 const BLOCK: usize = 8192;
@@ -16,9 +16,9 @@ pub(crate) enum Next {
     // This was the last answer; every line is written.
     Last(BlockAnswer),
     // It cannot be read.
-    Unread,
+    Unread(io::Error),
     // The lines cannot be written.
-    Unwritten,
+    Unwritten(io::Error),
 }
 
 // What a block leaves: the session, how many bytes of a record that is not whole yet stand at the front of the buffer, and how the trace goes on.
@@ -50,6 +50,7 @@ fn after(answer: BlockAnswer, read: usize) -> Next {
 
 // Plays what stands at the front of the buffer, so many bytes kept and so many read, and writes the lines of the replies.
 fn play_read(
+    mut to: Stdout,
     session: Session,
     kept: usize,
     read: usize,
@@ -71,8 +72,8 @@ fn play_read(
             text: used,
             kept: left,
         } => {
-            if !io::write_all(STDOUT_FILENO, &text[..used]) {
-                return stopped(session, Next::Unwritten);
+            if let Err(error) = to.write_all(&text[..used]) {
+                return stopped(session, Next::Unwritten(error));
             }
             return Progress {
                 session,
@@ -84,8 +85,8 @@ fn play_read(
             refusal: _,
             text: used,
         } => {
-            if !io::write_all(STDOUT_FILENO, &text[..used]) {
-                return stopped(session, Next::Unwritten);
+            if let Err(error) = to.write_all(&text[..used]) {
+                return stopped(session, Next::Unwritten(error));
             }
             return stopped(session, after(answer, read));
         }
@@ -93,46 +94,44 @@ fn play_read(
 }
 
 // Reads a block behind the bytes kept, and plays it.
-fn turn(session: Session, kept: usize, buffer: &mut [u8], text: &mut [u8]) -> Progress
+fn turn<R: Read>(
+    from: &mut R,
+    to: Stdout,
+    session: Session,
+    kept: usize,
+    buffer: &mut [u8],
+    text: &mut [u8],
+) -> Progress
     requires { (kept ≤ 6) × (8198 ≤ length buffer.old) × (155756 ≤ length text.old) }
     ensures { result.kept ≤ 6 }
 {
     let end = kept + BLOCK;
-    let got = program_input::read_some(STDIN_FILENO, &mut buffer[kept..end]);
-    if got < 0 {
-        return stopped(session, Next::Unread);
-    }
-    let read = io::count(got, &buffer[kept..end]);
-    play_read(session, kept, read, buffer, text)
-}
-
-// Whether more is to be read.
-fn goes_on(next: Next) -> bool {
-    match next {
-        Next::More => true,
-        Next::Last(_) => false,
-        Next::Unread => false,
-        Next::Unwritten => false,
+    match program_input::read_some(from, &mut buffer[kept..end]) {
+        Ok(read) => play_read(to, session, kept, read, buffer, text),
+        Err(error) => stopped(session, Next::Unread(error)),
     }
 }
 
-// Replays the whole trace, and says how it ended. A proved loop has to end, and nothing says that the input does: so the loop counts its turns
-// down, from a number that no run uses up.
-pub(crate) fn replay_all(session: Session, buffer: &mut [u8], text: &mut [u8]) -> Progress
+// Replays the whole trace, and says how it ended. A proved loop has to end, and nothing says that the input does: so the loop counts its turns,
+// up to a number that no run uses up.
+pub(crate) fn replay_all<R: Read>(
+    from: &mut R,
+    to: Stdout,
+    session: Session,
+    buffer: &mut [u8],
+    text: &mut [u8],
+) -> Progress
     requires { (8198 ≤ length buffer.old) × (155756 ≤ length text.old) }
 {
     let mut present = session;
     let mut kept = 0;
-    let mut turns = u64::MAX;
-    while 0 < turns {
-        let progress = turn(present, kept, buffer, text);
-        let next = progress.next;
-        if !goes_on(next) {
+    for _turn in 0..u64::MAX {
+        let progress = turn(from, to, present, kept, buffer, text);
+        let Next::More = progress.next else {
             return progress;
-        }
+        };
         present = progress.session;
         kept = progress.kept;
-        turns -= 1;
     }
     stopped(present, Next::More)
 }
