@@ -1,5 +1,5 @@
 -- A trace replayed in blocks: what a block comes to.
-use Rattle.std.specs.Prelude.{◌≡◌, ℕ, zero, suc, ◌+◌, ◌-◌, ◌*◌, ◌%◌, ◌^◌, Bool, true, false, List, [], ◌∷◌, length, take, ◌==◌, ◌≢◌, nat_le}
+use Rattle.std.specs.Prelude.{ℕ, zero, suc, ◌+◌, ◌-◌, ◌*◌, ◌%◌, ◌^◌, Bool, true, false, List, [], ◌∷◌, length, take, ◌==◌, ◌≢◌, nat_le}
 use Rattle.laws.specs.Memory.{over}
 use Rattle.laws.specs.Test.{pick}
 use Rattle.frame.specs.Refusals.{short_memory, out_of_range, cut_off}

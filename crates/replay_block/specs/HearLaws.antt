@@ -11,7 +11,7 @@ use Rattle.std.proofs.Math.Seq.{take-append_seam, drop-cons}
 use borrow.Author.Tests.{eqb-true, eq-eqb, leb-true, le-leb, ltb-true}
 use Rattle.laws.specs.Memory.{outcome, over}
 use Rattle.laws.specs.Test.{pick}
-use Rattle.frame.specs.EndToEnd.{cut_from, cut}
+use Rattle.frame.specs.EndToEnd.{cut_from}
 use Rattle.frame.specs.Recognition.{recognised}
 use Rattle.frame.specs.RecognitionLaws.{open_most}
 use Rattle.frame.specs.declared.Recognised.TheVariants.{Open}

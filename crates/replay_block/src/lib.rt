@@ -1,5 +1,7 @@
 // A trace replayed in blocks, cut at any byte: document 02, W1. A call plays the whole records of a block that a host has read behind what
 // was kept, and keeps the bytes of a record that is not whole yet at the front of the buffer.
+#![tactic(auto)]
+
 mod hear;
 mod run;
 
