@@ -3,6 +3,7 @@ use energy::{Energies, Rows, reading};
 use replay::ReplayState;
 use run_text::read::{BytesRead, read_bytes};
 use run_text::write::write;
+use std::io::Stdout;
 
 // The byte that two digits write, or 255, which is no two digits of an address, where they write none.
 fn byte_of(high: u8, low: u8) -> u8 {
@@ -39,24 +40,24 @@ fn with_large(rows: Rows) -> Rows {
 }
 
 // The replay with a value outside its range, which a word behind a blank names.
-pub fn broken(replay: ReplayState, word: &[u8]) -> ReplayState {
+pub fn broken(to: Stdout, replay: ReplayState, word: &[u8]) -> ReplayState {
     let mut receiver = replay.receiver;
     let mut meter = replay.meter;
     let mut energies = replay.energies;
-    if check::same(word, b" receiver") {
+    if word == b" receiver".as_slice() {
         receiver.count = 300;
-    } else if check::same(word, b" kept") {
+    } else if word == b" kept".as_slice() {
         receiver.count = 1;
-    } else if check::same(word, b" meter") {
+    } else if word == b" meter".as_slice() {
         meter.address = [0xAAu8; 6];
-    } else if check::same(word, b" register") {
+    } else if word == b" register".as_slice() {
         let mut registers = meter.registers;
         registers[0] = 0xFA;
         meter.registers = registers;
-    } else if check::same(word, b" reading") {
+    } else if word == b" reading".as_slice() {
         energies = Energies::new(energies.forward_rows(), with_large(energies.reverse_rows()));
     } else {
-        write(b"nothing is broken\n");
+        write(to, b"nothing is broken\n");
     }
     ReplayState {
         receiver,

@@ -3,6 +3,7 @@ ghost use Rattle.std.specs.Prelude.{◌≤◌};
 
 use run_text::memory::is_filled;
 use run_text::write::write;
+use std::io::Stdout;
 
 // How many bytes the output buffer has.
 pub const MEMORY: usize = 12000;
@@ -18,14 +19,14 @@ pub fn at_most(limit: usize, n: usize) -> usize
 }
 
 // Writes the text at the front of the output buffer, and says so where bytes beyond it are changed.
-pub fn write_text(out: &[u8; MEMORY], length: usize) {
+pub fn write_text(to: Stdout, out: &[u8; MEMORY], length: usize) {
     let all: &[u8] = out;
     if MEMORY < length {
-        write(b"memory changed\n");
+        write(to, b"memory changed\n");
         return;
     }
-    write(&all[0..length]);
+    write(to, &all[0..length]);
     if !is_filled(&all[length..]) {
-        write(b"memory changed\n");
+        write(to, b"memory changed\n");
     }
 }

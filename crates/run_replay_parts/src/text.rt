@@ -4,33 +4,35 @@ use replay_address::read_address;
 use replay_text::{Message, Reason, Written};
 use run_text::memory::FILL;
 use run_text::write::{write, write_bytes, write_either, write_numbered};
+use std::io::Stdout;
 
 // Writes a message into an output buffer of which so many bytes are lent: the answer, and the text.
-pub fn show(message: Message, room: usize) {
+pub fn show(to: Stdout, message: Message, room: usize) {
     let mut out = [FILL; MEMORY];
     let size = at_most(MEMORY, room);
     let written = replay_text::write_message(message, &mut out[0..size]);
     match written {
         Written::Length(n) => {
-            write_numbered(b"written ", n);
-            write_text(&out, n);
+            write_numbered(to, b"written ", n);
+            write_text(to, &out, n);
         }
         Written::TooLittleMemory => {
-            write(b"too little memory\n");
-            write_text(&out, 0);
+            write(to, b"too little memory\n");
+            write_text(to, &out, 0);
         }
     }
 }
 
 // Writes the text of a refusal at a place.
-pub fn refusal(number: u32, place: u64, room: usize) {
+pub fn refusal(to: Stdout, number: u32, place: u64, room: usize) {
     let refusal = (number % 256) as u8;
-    show(Message::BadRecord { refusal, place }, room);
+    show(to, Message::BadRecord { refusal, place }, room);
 }
 
 // Writes the text of so many records, frames and replies.
-pub fn counts(records: u64, frames: u64, replies: u64, room: usize) {
+pub fn counts(to: Stdout, records: u64, frames: u64, replies: u64, room: usize) {
     show(
+        to,
         Message::Replayed {
             records,
             frames,
@@ -50,15 +52,15 @@ fn reason_of(number: u32) -> Reason {
 }
 
 // Writes the text of how the program is called, for the reason of a number.
-pub fn usage(number: u32, room: usize) {
-    show(Message::Usage(reason_of(number)), room);
+pub fn usage(to: Stdout, number: u32, room: usize) {
+    show(to, Message::Usage(reason_of(number)), room);
 }
 
 // Writes the address that is read from a text behind a blank.
-pub fn address(text: &[u8]) {
+pub fn address(to: Stdout, text: &[u8]) {
     let start = at_most(text.len(), 1);
     let read = read_address(&text[start..]);
     let address = read.address;
-    write_either(read.found, b"address", b"no address");
-    write_bytes(b"", &address);
+    write_either(to, read.found, b"address", b"no address");
+    write_bytes(to, b"", &address);
 }
