@@ -1,4 +1,6 @@
 // What the replay program of document 02, W1, says beside its listing: how a trace ended, and how the program is called.
+#![tactic(auto)]
+
 mod put;
 
 ghost use Rattle.std.specs.Prelude.{◌≡◌, ◌+◌, ◌≤◌, ◌++◌, length, take};
