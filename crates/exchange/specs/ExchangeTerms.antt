@@ -8,10 +8,10 @@ use Rattle.item.specs.declared.table.Lookup.TheVariants.{Listed}
 use Rattle.energy.specs.Energies.{Rows}
 use Rattle.meter.specs.Meter.{AllKept, value_held, untouched}
 use Rattle.meter_decision.specs.Decision.{password_at}
-use Rattle.meter.specs.Ranges.{InRanges}
+use Rattle.meter.proofs.Ranges.{InRanges}
 use Rattle.meter.specs.Answer.{value_of}
 use Rattle.item_command.specs.Addressee.{IsFor}
-use Rattle.meter_holding.specs.EnergiesWords.{GivesReadings}
+use Rattle.meter_holding.proofs.EnergiesWords.{GivesReadings}
 use Rattle.meter.specs.declared.Meter.{Meter}
 use Rattle.reader.specs.Allowed.{RequestSized, request_value}
 use Rattle.reader.specs.Building.{sent_to, request_frame, request_bytes}

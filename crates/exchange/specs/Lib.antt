@@ -1,12 +1,2 @@
 pub mod Exchange
-pub mod HearingLaws
-pub mod Hearing
 pub mod ExchangeTerms
-pub mod ExchangeLaws
-pub mod RequestFrameLaws
-pub mod ReplyLaws
-pub mod Reads
-pub mod WritesAcross
-pub mod Foreign
-pub mod Demand2
-pub mod Said

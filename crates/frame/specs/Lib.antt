@@ -2,11 +2,4 @@ pub mod Refusals
 pub mod Frame
 pub mod Recognition
 pub mod EndToEnd
-pub mod ChecksumLaws
-pub mod TakenApartLaws
-pub mod FrameLaws
-pub mod StageLaws
-pub mod RecognitionLaws
-pub mod EndToEndLaws
 pub mod CaseFrames
-pub mod Examples

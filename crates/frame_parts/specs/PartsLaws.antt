@@ -8,7 +8,7 @@ use Rattle.laws.specs.Memory.{Outcome, outcome, over}
 use Rattle.frame.specs.Frame.{address_of, length_of, field_of, data_of}
 use Rattle.frame_parts.specs.Parts.{address_field, has_data, data_unmasked}
 use Rattle.frame.specs.Recognition.{exactly_one}
-use Rattle.frame.specs.RecognitionLaws.{one-frame, frame-spans, frame-most}
+use Rattle.frame.proofs.RecognitionLaws.{one-frame, frame-spans, frame-most}
 
 -- Bytes that are enough for an address field: that is what is taken, and it is bytes 1 to 6.
 module _ (bytes : List ℕ) (seven : 7 ≤ length bytes) where

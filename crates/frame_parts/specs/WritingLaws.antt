@@ -5,7 +5,7 @@ use native.Mathlib.Omega.{arith}
 use Rattle.std.proofs.lemmas.List.{length-map}
 use borrow.Author.Tests.{le-leb, lt-leb}
 use Rattle.frame.specs.Frame.{checksum_of, masked, summed, frame_of, frame_for}
-use Rattle.frame.specs.FrameLaws.{frame-length, frame-for-length}
+use Rattle.frame.proofs.FrameLaws.{frame-length, frame-for-length}
 use Rattle.laws.specs.Memory.{outcome, over}
 use Rattle.laws.specs.MemoryLaws.{over-length, over-itself, over-over, copied}
 use Rattle.laws.specs.Part.{part}

@@ -1,4 +1,1 @@
 pub mod Address
-pub mod AddressLaws
-pub mod LowBytesLaws
-pub mod Examples

@@ -8,7 +8,7 @@ use mathlib.Core.Logic.Iff
 use Rattle.laws.specs.Test.{pick}
 use Rattle.laws.specs.TestLaws.{pick_cases, either}
 use Rattle.laws.specs.AllLaws.{all-below}
-use Rattle.item_range.specs.RangeLaws.{leb_iff, within-iff}
+use Rattle.item_range.proofs.RangeLaws.{leb_iff, within-iff}
 use Rattle.item_calendar.specs.Calendar.{on, is_leap, has_thirty_days, month_length, is_date, days_of_months}
 use Rattle.item_calendar.specs.CalendarWords.{HasThirtyDays, IsDate}
 use Rattle.item_calendar.specs.declared.Date.{Date}

@@ -1,5 +1,3 @@
 pub mod Calendar
 pub mod CalendarWords
 pub mod CalendarLaws
-pub mod WeekdayLaws
-pub mod Examples

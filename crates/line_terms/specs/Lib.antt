@@ -1,16 +1,4 @@
 pub mod Line
-pub mod OneChoice
 pub mod Rest
 pub mod Places
-pub mod PlaceLaws
 pub mod Scan
-pub mod BeginsLaws
-pub mod ScanLaws
-pub mod Turns
-pub mod FramesFew
-pub mod FoundFrames
-pub mod TakenLaws
-pub mod ScanCertain
-pub mod NewFrames
-pub mod Closed
-pub mod RestLaws

@@ -8,7 +8,7 @@ use Rattle.std.proofs.lemmas.List.{get_or_at, take-append-le}
 use Rattle.std.proofs.lemmas.Bool.{lt-leb}
 use Rattle.frame.specs.Frame.{checksum_of, length_of}
 use Rattle.frame.specs.Recognition.{stage, recognised, recognised_body, recognised_end}
-use Rattle.frame.specs.StageLaws.{stage_open, stage-passed, stage-wrong}
+use Rattle.frame.proofs.StageLaws.{stage_open, stage-passed, stage-wrong}
 use Rattle.frame.specs.declared.Recognised.{Recognised}
 use Rattle.frame.specs.declared.Recognised.TheVariants as found
 use Rattle.line_verdict.specs.Verdict.{is_open, within_range, kept_with, verdict_for, judged, Headed}

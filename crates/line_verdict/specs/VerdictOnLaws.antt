@@ -9,7 +9,7 @@ use Rattle.laws.specs.Test.{pick}
 use Rattle.laws.specs.TestLaws.{pick_cases}
 use Rattle.frame.specs.Frame.{Frame}
 use Rattle.frame.specs.Recognition.{recognised}
-use Rattle.frame.specs.RecognitionLaws.{whole-within, whole-frame, frame-whole}
+use Rattle.frame.proofs.RecognitionLaws.{whole-within, whole-frame, frame-whole}
 use Rattle.frame.specs.declared.Recognised.{Recognised}
 use Rattle.frame.specs.declared.Recognised.TheVariants as found
 use Rattle.line_verdict.specs.Verdict.{is_open, within_range, kept_with, verdict_for, judged, verdict_on}

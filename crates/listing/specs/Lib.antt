@@ -1,10 +1,3 @@
 pub mod Text
-pub mod DigitLaws
-pub mod TextLaws
 pub mod Lines
-pub mod LinesLaws
 pub mod Step
-pub mod StepLaws
-pub mod ListedBlocks
-pub mod Examples
-pub mod Said

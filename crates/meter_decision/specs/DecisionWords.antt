@@ -6,7 +6,7 @@ use Rattle.item_command.specs.declared.Command.{Command}
 use Rattle.item_command.specs.declared.Command.TheVariants.{ReadData, ReadAddress, WriteData, WriteAddress, ChangePassword}
 use Rattle.item_decimal.specs.Decimal.{Decimal}
 use Rattle.item_identifier.specs.Identifier.{identifier_of}
-use Rattle.item.specs.ContentLaws.{Range}
+use Rattle.item.proofs.ContentLaws.{Range}
 use Rattle.item.specs.Table.{item_of}
 use Rattle.item.specs.declared.table.Item.{Item}
 use Rattle.item.specs.declared.table.Lookup.TheVariants.{Listed}

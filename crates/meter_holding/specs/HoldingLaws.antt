@@ -7,15 +7,15 @@ use Rattle.std.proofs.Math.ListN.{length}
 use Rattle.std.proofs.lemmas.List.{get_or-replicate}
 use borrow.Author.Tests.{leb-true, leb-false, le-leb, eq-eqb}
 use Rattle.item_decimal.specs.Decimal.{Decimal}
-use Rattle.item_decimal.specs.DecimalLaws.{decimal-take, decimal-drop, decimal_join}
+use Rattle.item_decimal.proofs.DecimalLaws.{decimal-take, decimal-drop, decimal_join}
 use Rattle.item.specs.Table.{item_of, other_rows}
-use Rattle.item.specs.TableLaws.{Within, listed_rule, writable-once}
+use Rattle.item.proofs.TableLaws.{Within, listed_rule, writable-once}
 use Rattle.item.specs.declared.table.Kind.{Kind}
 use Rattle.item.specs.declared.table.Kind.TheVariants.{Date, Time, DemandPeriod, Slip, Address, MeterNumber, SettlementDay}
 use Rattle.item.specs.declared.table.Item.{Item}
 use Rattle.item.specs.declared.table.Lookup.TheVariants.{Listed}
 use Rattle.energy.specs.Energies.{Rows}
-use Rattle.energy.specs.ColumnsLaws.{columns-length}
+use Rattle.energy.proofs.ColumnsLaws.{columns-length}
 use Rattle.meter_holding.specs.Holding.{location_of, held_at, value_held, registers_with, value_written, registers_after}
 use Rattle.meter_holding.specs.declared.Held.TheVariants.{Length}
 use Rattle.laws.specs.Memory.{outcome, over}

@@ -1,11 +1,3 @@
 pub mod Allowed
-pub mod AllowedWords
 pub mod Building
-pub mod BuildingLaws
-pub mod BuildWords
 pub mod Judging
-pub mod JudgingLaws
-pub mod JudgeWords
-pub mod JudgeWordsLaws
-pub mod Said
-pub mod SaidLaws

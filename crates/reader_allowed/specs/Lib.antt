@@ -1,4 +1,2 @@
 pub mod Allowed
-pub mod AllowedLaws
 pub mod Said
-pub mod AllowedWords

@@ -1,4 +1,3 @@
 pub mod Judging
 pub mod JudgingWords
-pub mod JudgingWordsLaws
 pub mod Said

@@ -1,4 +1,2 @@
 pub mod WholeLine
 pub mod WholeLineLaws
-pub mod WholeLineWords
-pub mod Said

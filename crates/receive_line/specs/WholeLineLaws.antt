@@ -11,10 +11,10 @@ use Rattle.laws.specs.MemoryLaws.{over-length, over-over, over-itself}
 use Rattle.line_terms.specs.Line.{Symbol, byte, silence}
 use Rattle.line_terms.specs.Places.{joined}
 use Rattle.line_terms.specs.Scan.{scan}
-use Rattle.line_terms.specs.FramesFew.{bytes_in, bytes_in_lem, bytes_in_closed, frames-few}
+use Rattle.line_terms.proofs.FramesFew.{bytes_in, bytes_in_lem, bytes_in_closed, frames-few}
 use Rattle.line.specs.Receiver.{fresh, called}
-use Rattle.line.specs.CallLaws.{HasReceived, fresh-received, new_frames, after_one}
-use Rattle.line.specs.DeliversLaws.{Delivers, call-delivers}
+use Rattle.line.proofs.CallLaws.{HasReceived, fresh-received, new_frames, after_one}
+use Rattle.line.proofs.DeliversLaws.{Delivers, call-delivers}
 use Rattle.line.specs.declared.Receiver.{Receiver}
 use Rattle.line.specs.declared.Received.{Received}
 use Rattle.line.specs.declared.Answer.TheVariants.{Refused, Delivered}

@@ -11,21 +11,21 @@ use Rattle.frame_parts.specs.Said.{written_said, CannotWrite, writing-refuses, i
 use Rattle.frame_parts.specs.Writing.{writing, writing_in_place}
 use Rattle.line_terms.specs.Line.{Symbol}
 use Rattle.line.specs.Receiver.{called}
-use Rattle.line.specs.Said.{receiver_said, CannotHear, call-refuses}
+use Rattle.line.proofs.Said.{receiver_said, CannotHear, call-refuses}
 use Rattle.line.specs.declared.Receiver.{Receiver}
 use Rattle.line_block.specs.Block.{block_read}
-use Rattle.line_block.specs.Said.{block_said, block-refuses}
+use Rattle.line_block.proofs.Said.{block_said, block-refuses}
 use Rattle.recording.specs.Step.{step_read}
-use Rattle.recording.specs.Said as recorded
-use Rattle.recording.specs.Said.{step-refuses}
+use Rattle.recording.proofs.Said as recorded
+use Rattle.recording.proofs.Said.{step-refuses}
 use Rattle.listing.specs.Text.{listing}
 use Rattle.listing.specs.Step.{TooShort, step_listed}
-use Rattle.listing.specs.Said.{listed_said, step_listed_said, CannotList, listing-refuses, list_step_refuses}
+use Rattle.listing.proofs.Said.{listed_said, step_listed_said, CannotList, listing-refuses, list_step_refuses}
 use Rattle.receive_line.specs.WholeLine.{received_line}
-use Rattle.receive_line.specs.Said.{line_said, line-refuses}
+use Rattle.receive_line.proofs.Said.{line_said, line-refuses}
 use Rattle.item_address.specs.Address.{Good}
 use Rattle.item_decimal.specs.Decimal.{packing}
-use Rattle.item_decimal.specs.Said.{packed_said, packing-refuses}
+use Rattle.item_decimal.proofs.Said.{packed_said, packing-refuses}
 use Rattle.item.specs.Table.{item_of}
 use Rattle.item.specs.declared.table.Item.{Item}
 use Rattle.item.specs.declared.table.Lookup.TheVariants.{Listed}
@@ -33,44 +33,44 @@ use Rattle.energy.specs.Energies.{Rows}
 use Rattle.energy.specs.declared.Energies.{Energies}
 use Rattle.meter_counting.specs.Counting as counting
 use Rattle.meter_counting.specs.Counting.{energies_of}
-use Rattle.meter_counting.specs.Said as counted
-use Rattle.meter_counting.specs.Said.{host_said, Countable}
+use Rattle.meter_counting.proofs.Said as counted
+use Rattle.meter_counting.proofs.Said.{host_said, Countable}
 use Rattle.meter_holding.specs.Holding.{location_of, value_written, registers_after}
-use Rattle.meter_holding.specs.Said.{held_said, HasRoom, value-refuses, registers_as_before}
+use Rattle.meter_holding.proofs.Said.{held_said, HasRoom, value-refuses, registers_as_before}
 use Rattle.meter_holding.specs.declared.location.Location.TheVariants.{Register}
 use Rattle.meter.specs.Meter.{MeterSized}
-use Rattle.meter.specs.Ranges.{InRanges}
+use Rattle.meter.proofs.Ranges.{InRanges}
 use Rattle.meter.specs.Host.{created, key_set, pulsed_by, settled_by}
 use Rattle.meter.specs.Answer.{answered}
-use Rattle.meter.specs.Said.{frame_said, Whole, fresh-refused, key-refuses, pulse-refuses, settle-refuses, frame-refuses}
+use Rattle.meter.proofs.Said.{frame_said, Whole, fresh-refused, key-refuses, pulse-refuses, settle-refuses, frame-refuses}
 use Rattle.meter.specs.declared.FrameAnswer.TheVariants as frames
 use Rattle.meter.specs.declared.Meter.{Meter}
 use Rattle.reader.specs.Allowed.{RequestSized}
 use Rattle.reader.specs.Building.{built}
 use Rattle.reader.specs.Judging.{judged}
-use Rattle.reader.specs.JudgeWords.{judge_words}
-use Rattle.reader.specs.Said.{built_said, CannotBuild, build-refuses, judge-refuses}
+use Rattle.reader.proofs.JudgeWords.{judge_words}
+use Rattle.reader.proofs.Said.{built_said, CannotBuild, build-refuses, judge-refuses}
 use Rattle.reader.specs.declared.Request.{Request}
 use Rattle.reader_judgement.specs.Said.{judgement_said}
 use Rattle.trace.specs.Trace.{front_of}
 use Rattle.trace.specs.declared.TraceRecord.{TraceRecord}
-use Rattle.trace.specs.Said.{front_said, NoGoodRecord, front-refuses}
+use Rattle.trace.proofs.Said.{front_said, NoGoodRecord, front-refuses}
 use Rattle.replay_frames.specs.Putting.{frames_put}
-use Rattle.replay_frames.specs.Said.{put_said, CannotPut, put-refuses}
+use Rattle.replay_frames.proofs.Said.{put_said, CannotPut, put-refuses}
 use Rattle.replay.specs.Replay.{started, host_call, stepped}
-use Rattle.replay.specs.Said as replayed
-use Rattle.replay.specs.Said.{step_said, CannotStep, CallsNothing, start-refused, host_leaves}
-use Rattle.replay.specs.StepWords as replay
+use Rattle.replay.proofs.Said as replayed
+use Rattle.replay.proofs.Said.{step_said, CannotStep, CallsNothing, start-refused, host_leaves}
+use Rattle.replay.proofs.StepWords as replay
 use Rattle.replay.specs.declared.ReplayState.{ReplayState}
 use Rattle.replay_block.specs.Block.{begun, block_replayed}
-use Rattle.replay_block.specs.BlockWords.{block_played_said, CannotPlay, play_refuses, begin_refused}
+use Rattle.replay_block.proofs.BlockWords.{block_played_said, CannotPlay, play_refuses, begin_refused}
 use Rattle.replay_block.specs.declared.Session.{Session}
 use Rattle.replay_text.specs.Texts as texts
-use Rattle.replay_text.specs.Said as said
+use Rattle.replay_text.proofs.Said as said
 use Rattle.replay_text.specs.declared.Message.{Message}
 use Rattle.exchange.specs.Exchange.{Memories}
 use Rattle.exchange.specs.ExchangeTerms.{Typed}
-use Rattle.exchange.specs.Said.{ExchangeAnswers, exchange-answers}
+use Rattle.exchange.proofs.Said.{ExchangeAnswers, exchange-answers}
 
 -- Each operation refuses exactly where the papers say so, and a refusal, by whatever number, changes nothing.
 pub record RefusalsChangeNothing : Type 0 where

@@ -8,7 +8,7 @@ use Rattle.frame.specs.EndToEnd.{behind_each_other}
 use Rattle.line_terms.specs.Line as line
 use Rattle.line_terms.specs.Line.{Symbol}
 use Rattle.line.specs.Receiver.{fresh, called}
-use Rattle.line.specs.Demand3.{ReceiverCall, delivered_by}
+use Rattle.line.proofs.Demand3.{ReceiverCall, delivered_by}
 use Rattle.energy.specs.Energies.{Rows}
 use Rattle.meter.specs.Answer.{answered}
 use Rattle.meter.specs.Host.{created, key_set, pulsed_by, settled_by}

@@ -1,12 +1,3 @@
 pub mod Replay
 pub mod Play
 pub mod ByHand
-pub mod StateLaws
-pub mod ByHandLaws
-pub mod StepLaws
-pub mod PlayLaws
-pub mod StepWords
-pub mod StartWords
-pub mod Replayed
-pub mod ReplayedDone
-pub mod Said

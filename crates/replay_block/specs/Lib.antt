@@ -1,12 +1,3 @@
 pub mod Block
 pub mod Hear
-pub mod HearLaws
-pub mod ReadingLaws
 pub mod Run
-pub mod RunLaws
-pub mod BlockLaws
-pub mod BlockCalls
-pub mod BlockWords
-pub mod Blocks
-pub mod CutAnywhere
-pub mod BlocksDone

@@ -6,7 +6,7 @@ use Rattle.std.specs.Borrow.{Bor}
 use Rattle.laws.specs.Memory.{outcome, Bytes}
 use Rattle.item_address.specs.Address.{Good}
 use Rattle.replay.specs.Replay.{started, stepped}
-use Rattle.replay.specs.Replayed.{StepCall, place_by, Steps, Replays, replayed_by_hand}
+use Rattle.replay.proofs.Replayed.{StepCall, place_by, Steps, Replays, replayed_by_hand}
 use Rattle.replay.specs.declared.ReplayState.{ReplayState}
 use Rattle.replay_walker.specs.declared.Walker.{Walker}
 use Rattle.replay_walker.specs.Walker.{begun, moved_to}

@@ -15,7 +15,7 @@ use Rattle.reader.specs.Allowed as reader
 use Rattle.reader.specs.declared.Built.TheVariants.{Length}
 use Rattle.exchange.specs.Exchange.{Memories, memories, enough, exchanged}
 use Rattle.exchange.specs.ExchangeTerms.{EnoughMemory}
-use Rattle.exchange.specs.ExchangeLaws.{enough-memory, built-puts, built-refuses, heard-puts, reply-within, carried-through, request_shape}
+use Rattle.exchange.proofs.ExchangeLaws.{enough-memory, built-puts, built-refuses, heard-puts, reply-within, carried-through, request_shape}
 use Rattle.laws.specs.Puts.{Puts, front-within, front-put}
 use Rattle.exchange.proofs.exchange.Goals as goal
 use Rattle.exchange.proofs.exchange.Goals.{After-answer-answered, After-build, After-hear-delivered, Else-not-is_enough, Else-not-is_within_ranges, Start}

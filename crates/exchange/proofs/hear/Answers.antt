@@ -4,8 +4,8 @@ use Prim.Native.Nat.{ℕ}
 use mathlib.Core.Path.{◌≡◌}
 use native.Mathlib.Omega.{arith}
 use lib.ListN.{drop}
-use Rattle.line.specs.DeliversLaws.{Delivers}
-use Rattle.exchange.specs.HearingLaws.{hearing_start, hearing_next, hearing_end}
+use Rattle.line.proofs.DeliversLaws.{Delivers}
+use Rattle.exchange.proofs.HearingLaws.{hearing_start, hearing_next, hearing_end}
 use Rattle.exchange.proofs.hear.Goals as goal
 use Rattle.exchange.proofs.hear.Goals.{After-loop-i, At-loop-i, In-loop-i, Start}
 

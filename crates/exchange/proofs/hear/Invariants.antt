@@ -1,7 +1,7 @@
 -- Before each turn the bytes passed are heard and the memory is as it was.
 use Prim.Native.Nat.{◌-◌}
 use lib.ListN.{length}
-use Rattle.exchange.specs.HearingLaws.{Hearing}
+use Rattle.exchange.proofs.HearingLaws.{Hearing}
 use Rattle.exchange.proofs.hear.Given as goal
 
 abbrev pub invariant-loop-i : goal.invariant-loop-i

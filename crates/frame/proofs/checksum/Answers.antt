@@ -2,7 +2,7 @@
 -- none to three.
 use Rattle.std.proofs.Common.{◌≡◌, ℕ, zero, suc, ◌+◌, ◌-◌, ◌%◌, ◌≤◌, List, length, get_or, take, sym, refl, ap, ◌∙◌, add-zero, arith, take_all, rules}
 use Rattle.frame.specs.Frame.{total, checksum_of}
-use Rattle.frame.specs.ChecksumLaws.{checksum_next}
+use Rattle.frame.proofs.ChecksumLaws.{checksum_next}
 use Rattle.frame.proofs.checksum.Goals as goal
 use Rattle.frame.proofs.checksum.Goals.{After-wrapping_add_u8-turns, At-loop-i}
 

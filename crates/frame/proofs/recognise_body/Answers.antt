@@ -4,7 +4,7 @@ use Rattle.std.proofs.Common.{◌≡◌, ◌+◌, ◌<◌, ◌≤◌, true, fals
 use borrow.Author.Tests.{lt-leb}
 use Rattle.frame.specs.Frame.{checksum_of, length_of}
 use Rattle.frame.specs.Recognition.{recognised_body, recognised_end}
-use Rattle.frame.specs.StageLaws.{last-wrong}
+use Rattle.frame.proofs.StageLaws.{last-wrong}
 use Rattle.frame.proofs.recognise_body.Goals as goal
 use Rattle.frame.proofs.recognise_body.Goals.{then-end-n+else-bytes-end-ne22, else-end-n, Else-data_length-gt200, Else-n-end-2, Else-n-le9, Else-sum-sent, Then-sum-sent}
 

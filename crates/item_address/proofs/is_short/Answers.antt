@@ -5,9 +5,9 @@ use mathlib.Core.Bool.{true}
 use native.Mathlib.Omega.{arith}
 use lib.Seq.{length-take-le}
 use Rattle.item_range.specs.Range.{within}
-use Rattle.item_range.specs.RangeLaws.{within-iff}
+use Rattle.item_range.proofs.RangeLaws.{within-iff}
 use Rattle.item_address.specs.Address.{is_short}
-use Rattle.item_address.specs.LowBytesLaws.{short_form}
+use Rattle.item_address.proofs.LowBytesLaws.{short_form}
 use Rattle.item_address.proofs.is_short.Goals as goal
 use Rattle.item_address.proofs.is_short.Goals.{Else-not-is_within}
 

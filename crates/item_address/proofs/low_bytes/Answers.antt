@@ -2,7 +2,7 @@
 use mathlib.Core.Path.{◌≡◌}
 use borrow.Author.Rules.{rules}
 use lib.ListN.{length}
-use Rattle.item_address.specs.LowBytesLaws.{counting_start, counting_next, counting_found, counting_end}
+use Rattle.item_address.proofs.LowBytesLaws.{counting_start, counting_next, counting_found, counting_end}
 use Rattle.item_address.proofs.low_bytes.Goals as goal
 use Rattle.item_address.proofs.low_bytes.Goals.{Start}
 

@@ -1,5 +1,5 @@
 -- The invariant, `Counting`: from `count` on all is wildcard bytes.
-use Rattle.item_address.specs.LowBytesLaws.{Counting}
+use Rattle.item_address.proofs.LowBytesLaws.{Counting}
 use Rattle.item_address.proofs.low_bytes.Given as goal
 
 abbrev pub invariant-loop-count : goal.invariant-loop-count

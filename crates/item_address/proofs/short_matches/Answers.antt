@@ -5,9 +5,9 @@ use mathlib.Core.Bool.{true}
 use native.Mathlib.Omega.{arith}
 use lib.Seq.{length-take-le}
 use Rattle.item_range.specs.Range.{within}
-use Rattle.item_range.specs.RangeLaws.{within-iff}
+use Rattle.item_range.proofs.RangeLaws.{within-iff}
 use Rattle.item_address.specs.Address.{short_matches}
-use Rattle.item_address.specs.LowBytesLaws.{short_form}
+use Rattle.item_address.proofs.LowBytesLaws.{short_form}
 use Rattle.item_address.proofs.short_matches.Goals as goal
 use Rattle.item_address.proofs.short_matches.Goals.{Else-not-is_within}
 

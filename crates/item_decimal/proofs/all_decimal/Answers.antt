@@ -1,7 +1,7 @@
 -- The laws of `Passing` say what a turn of the loop and its end make of the flag.
 use mathlib.Core.Path.{◌∙◌}
 use Rattle.laws.specs.Pass.{passing_start, passing_next, passing_end}
-use Rattle.item_decimal.specs.DecimalLaws.{every_decimal}
+use Rattle.item_decimal.proofs.DecimalLaws.{every_decimal}
 use Rattle.item_decimal.proofs.all_decimal.Goals as goal
 
 pub loop-i-init : goal.loop-i-init

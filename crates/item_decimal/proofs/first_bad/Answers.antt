@@ -2,7 +2,7 @@
 use mathlib.Core.Path.{sym, ◌∙◌}
 use Rattle.laws.specs.Walk.{walked_start, walked_next, walked_stops, walked_end}
 use Rattle.item_decimal.specs.Decimal.{first_bad}
-use Rattle.item_decimal.specs.DecimalLaws.{decimal-walk}
+use Rattle.item_decimal.proofs.DecimalLaws.{decimal-walk}
 use Rattle.item_decimal.proofs.first_bad.Goals as goal
 
 pub loop-i-init : goal.loop-i-init

@@ -1,6 +1,6 @@
 -- The laws of `Fitting` say what a turn of the loop and its end make of what is left of the number.
 use mathlib.Core.Path.{sym}
-use Rattle.item_decimal.specs.PackLaws.{fitting_start, fitting_next, fitting_end}
+use Rattle.item_decimal.proofs.PackLaws.{fitting_start, fitting_next, fitting_end}
 use Rattle.item_decimal.proofs.fits.Goals as goal
 
 pub loop-i-init : goal.loop-i-init

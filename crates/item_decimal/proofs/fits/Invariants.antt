@@ -1,6 +1,6 @@
 -- The invariant, `Fitting`: what is left of the number is to fit in the pairs that are left.
 use Prim.Native.Nat.{◌-◌}
-use Rattle.item_decimal.specs.PackLaws.{Fitting}
+use Rattle.item_decimal.proofs.PackLaws.{Fitting}
 use Rattle.item_decimal.proofs.fits.Given as goal
 
 abbrev pub invariant-loop-i : goal.invariant-loop-i

@@ -1,8 +1,8 @@
 -- The laws of `Unpacking` say what a turn of the loop and its end make of the number; nine decimal bytes hold one that fits.
 use native.Mathlib.Omega.{arith}
 use Prim.Native.Nat.{◌+◌, ◌-◌, ◌*◌}
-use Rattle.item_decimal.specs.DecimalLaws.{all-decimal}
-use Rattle.item_decimal.specs.PackLaws.{Unpacking, unpacking-start, unpacking-next, unpacking-below, unpacking-end}
+use Rattle.item_decimal.proofs.DecimalLaws.{all-decimal}
+use Rattle.item_decimal.proofs.PackLaws.{Unpacking, unpacking-start, unpacking-next, unpacking-below, unpacking-end}
 use Rattle.item_decimal.proofs.number_of.Goals as goal
 use Rattle.item_decimal.proofs.number_of.Goals.{After-digits_of-pair, At-loop-left, In-loop-left}
 

@@ -1,5 +1,5 @@
 -- The invariant, `Unpacking`: the number is that of the bytes from `left` on.
-use Rattle.item_decimal.specs.PackLaws.{Unpacking}
+use Rattle.item_decimal.proofs.PackLaws.{Unpacking}
 use Rattle.item_decimal.proofs.number_of.Given as goal
 
 abbrev pub invariant-loop-left : goal.invariant-loop-left

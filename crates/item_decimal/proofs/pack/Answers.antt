@@ -2,7 +2,7 @@
 use mathlib.Core.Path.{ap, sym, ◌∙◌}
 use Rattle.laws.specs.Memory.{outcome}
 use Rattle.item_decimal.specs.Decimal.{packing}
-use Rattle.item_decimal.specs.PackLaws.{pair-digits, packing-start, packing-next, packing-end}
+use Rattle.item_decimal.proofs.PackLaws.{pair-digits, packing-start, packing-next, packing-end}
 use Rattle.item_decimal.specs.declared.Packed.TheVariants.{Done}
 use Rattle.item_decimal.proofs.pack.Goals as goal
 

@@ -1,7 +1,7 @@
 -- The invariant, `Packing`: the bytes passed are the lowest digits, and `rest` is the number without them.
 use Prim.Native.Nat.{◌-◌}
 use lib.ListN.{length}
-use Rattle.item_decimal.specs.PackLaws.{Packing}
+use Rattle.item_decimal.proofs.PackLaws.{Packing}
 use Rattle.item_decimal.proofs.pack.Given as goal
 
 abbrev pub invariant-loop-i : goal.invariant-loop-i

@@ -7,9 +7,9 @@ use Rattle.laws.specs.Memory.{over}
 use Rattle.frame.specs.Recognition.{recognised}
 use Rattle.frame.specs.declared.Recognised.TheVariants.{Whole}
 use Rattle.line_terms.specs.Scan.{before_silence}
-use Rattle.line_block.specs.DrainLaws.{Draining, draining_start, draining_next, draining_whole, draining_closed, whole-fits, whole-least}
-use Rattle.line_block.specs.SkipLaws.{passes-one, passes_join, draining_passes}
-use Rattle.line_block.specs.BlockLaws.{end_read, open_read}
+use Rattle.line_block.proofs.DrainLaws.{Draining, draining_start, draining_next, draining_whole, draining_closed, whole-fits, whole-least}
+use Rattle.line_block.proofs.SkipLaws.{passes-one, passes_join, draining_passes}
+use Rattle.line_block.proofs.BlockLaws.{end_read, open_read}
 use Rattle.line_block.proofs.drain.Goals as goal
 use Rattle.line_block.proofs.drain.Goals.{After-recognise-found, In-Whole}
 

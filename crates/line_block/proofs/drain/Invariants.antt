@@ -1,6 +1,6 @@
 -- The invariant is the law of draining.
 use Rattle.std.proofs.Common.{◌-◌, length}
-use Rattle.line_block.specs.DrainLaws.{Draining}
+use Rattle.line_block.proofs.DrainLaws.{Draining}
 use Rattle.line_block.proofs.drain.Given as goal
 
 abbrev pub invariant-loop-at : goal.invariant-loop-at

@@ -4,7 +4,7 @@ use Rattle.std.proofs.Common.{◌≤◌, ◌<◌, ◌≡◌, sym, ◌∙◌, len
 use Rattle.std.proofs.lemmas.Bool.{lt-leb}
 use Rattle.frame.specs.Frame.{length_of}
 use Rattle.listing.specs.Text.{Spans, text_of, text_length, listing}
-use Rattle.listing.specs.TextLaws.{frame-spans, text-length}
+use Rattle.listing.proofs.TextLaws.{frame-spans, text-length}
 use Rattle.listing.proofs.list_frame.Goals as goal
 use Rattle.listing.proofs.list_frame.Goals.{After-text_length-n, Else-not-is_frame, Else-out-n}
 

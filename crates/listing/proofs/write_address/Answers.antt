@@ -1,7 +1,7 @@
 -- A law says what the digits of one byte more make of those written.
 use Rattle.std.proofs.Common.{◌+◌, ◌*◌, ◌-◌, ◌≡◌, reverse, length, drop, get_or, arith, rules}
 use Rattle.std.proofs.Math.Seq.{drop-length}
-use Rattle.listing.specs.DigitLaws.{digits-start, digits-next, backward_next, backward_length}
+use Rattle.listing.proofs.DigitLaws.{digits-start, digits-next, backward_next, backward_length}
 use Rattle.listing.proofs.write_address.Goals as goal
 
 pub loop-left-init : goal.loop-left-init

@@ -1,6 +1,6 @@
 -- The digits of the bytes behind `left` are written, the last byte's first.
 use Rattle.std.proofs.Common.{◌+◌, ◌*◌, ◌≤◌, ◌≡◌, reverse, length, drop}
-use Rattle.listing.specs.DigitLaws.{Digits}
+use Rattle.listing.proofs.DigitLaws.{Digits}
 use Rattle.listing.proofs.write_address.Given as goal
 
 abbrev pub invariant-loop-left : goal.invariant-loop-left

@@ -1,7 +1,7 @@
 -- A law says what the digits of one byte more make of those written.
 use Rattle.std.proofs.Common.{◌+◌, ◌*◌, ◌≡◌, map, length, take, arith, rules}
 use Rattle.frame.specs.Frame.{unmasked}
-use Rattle.listing.specs.DigitLaws.{digits-start, digits-next, forward-next, forward-length}
+use Rattle.listing.proofs.DigitLaws.{digits-start, digits-next, forward-next, forward-length}
 use Rattle.listing.proofs.write_data.Goals as goal
 
 pub loop-i-init : goal.loop-i-init

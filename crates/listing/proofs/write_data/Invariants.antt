@@ -1,7 +1,7 @@
 -- The digits of the bytes passed, unmasked, are written. The measure is what is left of the field.
 use Rattle.std.proofs.Common.{◌+◌, ◌*◌, ◌-◌, ◌≤◌, ◌≡◌, map, length, take}
 use Rattle.frame.specs.Frame.{unmasked}
-use Rattle.listing.specs.DigitLaws.{Digits}
+use Rattle.listing.proofs.DigitLaws.{Digits}
 use Rattle.listing.proofs.write_data.Given as goal
 
 abbrev pub invariant-loop-i : goal.invariant-loop-i

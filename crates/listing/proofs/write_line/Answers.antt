@@ -1,7 +1,7 @@
 -- A text has room for its head, and the laws of the text say what the two stored parts are, and how many bytes they have.
 use Rattle.std.proofs.Common.{◌∙◌, sym, arith}
 use Rattle.frame.specs.Frame.{length_of}
-use Rattle.listing.specs.TextLaws.{length-least, text-length, text-stored}
+use Rattle.listing.proofs.TextLaws.{length-least, text-length, text-stored}
 use Rattle.listing.proofs.write_line.Goals as goal
 
 pub write_head-requires : goal.write_head-requires

@@ -3,7 +3,7 @@
 use Rattle.std.proofs.Common.{ℕ, ◌+◌, ◌*◌, ◌-◌, ◌≤◌, ◌≡◌, sym, ◌∙◌, List, length, get_or, arith, length-set, length-take, length-drop}
 use Rattle.frame.specs.Frame.{length_of, field_of, data_of}
 use Rattle.listing.specs.Text.{text_length}
-use Rattle.listing.specs.TextLaws.{length-least, length_none, length_some, no_data_stored, data_stored}
+use Rattle.listing.proofs.TextLaws.{length-least, length_none, length_some, no_data_stored, data_stored}
 use Rattle.listing.proofs.write_tail.Goals as goal
 use Rattle.listing.proofs.write_tail.Goals.{Else-count-eq0}
 

@@ -1,6 +1,6 @@
 -- What each direction is left with and what is answered are the parts of `pulsed_by`.
 use Rattle.std.proofs.Common.{◌∙◌}
-use Rattle.meter_counting.specs.CountingLaws.{pulse-parts}
+use Rattle.meter_counting.proofs.CountingLaws.{pulse-parts}
 use Rattle.meter_counting.proofs.pulse.Goals as goal
 
 pub returns : goal.returns

@@ -1,6 +1,6 @@
 -- What each direction is left with and what is answered are the parts of `settled_by`.
 use Rattle.std.proofs.Common.{◌∙◌}
-use Rattle.meter_counting.specs.CountingLaws.{settle-parts}
+use Rattle.meter_counting.proofs.CountingLaws.{settle-parts}
 use Rattle.meter_counting.proofs.settle.Goals as goal
 
 pub returns : goal.returns

@@ -1,5 +1,5 @@
 -- The invariant is the law of a list that is written over the front; no byte is read after it was written over.
-use Rattle.recording.specs.MoveLaws.{moving_start, moving_next, moving_end}
+use Rattle.recording.proofs.MoveLaws.{moving_start, moving_next, moving_end}
 use Rattle.recording.proofs.move_to_front.Goals as goal
 
 pub loop-i-init : goal.loop-i-init

@@ -4,7 +4,7 @@ use Rattle.laws.specs.Memory.{outcome}
 use Rattle.line_block.specs.Block.{block_read}
 use Rattle.line_block.specs.declared.BlockAnswer.{BlockAnswer}
 use Rattle.line_block.specs.declared.BlockAnswer.TheVariants.{Delivered}
-use Rattle.recording.specs.StepLaws.{step-beyond, step-refused, step-rest, step-delivers}
+use Rattle.recording.proofs.StepLaws.{step-beyond, step-refused, step-rest, step-delivers}
 use Rattle.recording.proofs.read_step.Goals as goal
 use Rattle.recording.proofs.read_step.Goals.{In-Delivered}
 

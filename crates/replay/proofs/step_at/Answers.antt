@@ -1,10 +1,10 @@
 -- Each way out is the definition's, by what stands at the place: `StepLaws` has one law for each.
 use Rattle.std.proofs.Common.{sym, ◌∙◌, arith, drop, length-drop}
-use Rattle.trace.specs.TraceLaws.{good-within}
+use Rattle.trace.proofs.TraceLaws.{good-within}
 use Rattle.replay.specs.Replay.{stepped}
-use Rattle.replay.specs.StepLaws.{front-step, short-step, bad-step, good-step}
-use Rattle.replay.specs.StepWords.{ended-iff}
-use Rattle.replay.specs.PlayLaws.{played_as_step}
+use Rattle.replay.proofs.StepLaws.{front-step, short-step, bad-step, good-step}
+use Rattle.replay.proofs.StepWords.{ended-iff}
+use Rattle.replay.proofs.PlayLaws.{played_as_step}
 use Rattle.replay.proofs.step_at.Goals as goal
 
 pub returns-then-not-is_within : goal.returns-then-not-is_within

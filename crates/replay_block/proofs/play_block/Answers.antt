@@ -7,7 +7,7 @@ use Rattle.trace.specs.Trace.{front_of}
 use Rattle.trace.specs.declared.Front.{Front}
 use Rattle.replay.specs.Replay.{is_within}
 use Rattle.replay_block.specs.Block.{block_outcome, is_stop}
-use Rattle.replay_block.specs.BlockLaws.{ready_begin, plays-block, rest-few, declines-outside, declines-buffer, declines-text, block-stops, block-keeps}
+use Rattle.replay_block.proofs.BlockLaws.{ready_begin, plays-block, rest-few, declines-outside, declines-buffer, declines-text, block-stops, block-keeps}
 use Rattle.replay_block.specs.Run.{NumbersFit}
 use Rattle.replay_block.specs.declared.BlockAnswer.TheVariants.{Played}
 use Rattle.replay_block.proofs.play_block.Goals as goal

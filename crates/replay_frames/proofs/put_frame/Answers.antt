@@ -8,7 +8,7 @@ use Rattle.listing.specs.declared.Listed.TheVariants.{Length}
 use Rattle.meter.specs.Meter.{MeterSized}
 use Rattle.meter.specs.declared.FrameAnswer.TheVariants.{Replied}
 use Rattle.replay_frames.specs.Putting.{put}
-use Rattle.replay_frames.specs.OnePutLaws.{one-silent, one-within, one-listed, one-replied}
+use Rattle.replay_frames.proofs.OnePutLaws.{one-silent, one-within, one-listed, one-replied}
 use Rattle.replay_frames.proofs.put_frame.Goals as goal
 use Rattle.replay_frames.proofs.put_frame.Goals.{Start, After-answer-answered, After-list_frame}
 

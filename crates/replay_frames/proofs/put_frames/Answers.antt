@@ -3,7 +3,7 @@ use Rattle.std.proofs.Common.{◌*◌, ◌≤◌, ◌<◌, ◌≡◌, sym, ◌�
 use Rattle.std.proofs.lemmas.Bool.{lt-leb}
 use Rattle.meter.specs.Meter.{MeterSized, within_ranges}
 use Rattle.replay_frames.specs.Putting.{frames_put}
-use Rattle.replay_frames.specs.TurnLaws.{Turn, progress_start, turn-later, turn-within, turn-asked, turn-fits, turn-few, turn-next, progress_end}
+use Rattle.replay_frames.proofs.TurnLaws.{Turn, progress_start, turn-later, turn-within, turn-asked, turn-fits, turn-few, turn-next, progress_end}
 use Rattle.replay_frames.proofs.put_frames.Goals as goal
 use Rattle.replay_frames.proofs.put_frames.Goals.{Start, After-is_within_ranges, After-next_end-next}
 

@@ -1,6 +1,6 @@
 -- The loop's invariant is `Progress`, and the measure is what is left of the frames.
 use Rattle.std.proofs.Common.{◌-◌, length}
-use Rattle.replay_frames.specs.TurnLaws.{Progress}
+use Rattle.replay_frames.proofs.TurnLaws.{Progress}
 use Rattle.replay_frames.proofs.put_frames.Given as goal
 
 abbrev pub invariant-loop-at : goal.invariant-loop-at

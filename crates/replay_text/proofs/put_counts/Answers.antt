@@ -1,6 +1,6 @@
 -- The parts of the line are put one behind the other.
 use Rattle.replay_text.specs.Texts.{counts_text}
-use Rattle.replay_text.specs.TextLaws.{puts_on}
+use Rattle.replay_text.proofs.TextLaws.{puts_on}
 use Rattle.replay_text.proofs.put_counts.Goals as goal
 
 pub returns : goal.returns

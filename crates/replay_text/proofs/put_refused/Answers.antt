@@ -1,6 +1,6 @@
 -- The parts of the line are put one behind the other.
 use Rattle.replay_text.specs.Texts.{refused_text}
-use Rattle.replay_text.specs.TextLaws.{puts_on}
+use Rattle.replay_text.proofs.TextLaws.{puts_on}
 use Rattle.replay_text.proofs.put_refused.Goals as goal
 
 pub returns : goal.returns

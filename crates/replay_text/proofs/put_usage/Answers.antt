@@ -1,7 +1,7 @@
 -- How the program is called is put behind the reason.
 use Rattle.std.proofs.Common.{arith}
 use Rattle.replay_text.specs.Texts.{usage, usage_text}
-use Rattle.replay_text.specs.TextLaws.{puts_on, reason_most}
+use Rattle.replay_text.proofs.TextLaws.{puts_on, reason_most}
 use Rattle.replay_text.proofs.put_usage.Goals as goal
 
 pub put-requires : goal.put-requires

@@ -2,7 +2,7 @@
 use Rattle.std.proofs.Common.{sym, arith, length-take-le}
 use Rattle.laws.specs.MemoryLaws.{copied}
 use Rattle.laws.specs.Puts.{front-within}
-use Rattle.replay_text.specs.TextLaws.{put_written, put-unwritten}
+use Rattle.replay_text.proofs.TextLaws.{put_written, put-unwritten}
 use Rattle.replay_text.proofs.write_message.Goals as goal
 
 pub returns-then-out-used : goal.returns-then-out-used

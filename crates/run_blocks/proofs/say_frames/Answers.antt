@@ -1,6 +1,6 @@
 -- A frame ends behind the place where it begins, so that the rest falls.
 use Rattle.std.proofs.Common.{◌≤◌, ◌<◌, sym, subst, arith, length}
-use Rattle.frame.specs.EndToEndLaws.{next-end-within}
+use Rattle.frame.proofs.EndToEndLaws.{next-end-within}
 use Rattle.run_blocks.proofs.say_frames.Goals as goal
 use Rattle.run_blocks.proofs.say_frames.Goals.{After-next_end-next}
 

@@ -1,11 +1,11 @@
 -- Each arm of the match is a case of `called`: what `verdict_on` says of the verdict is what the law of that case asks.
 use Rattle.std.proofs.Common.{ℕ, ◌≡◌, ◌+◌, ◌≤◌, sym, subst, arith, length, rules}
-use Rattle.frame.specs.RecognitionLaws.{open_most}
+use Rattle.frame.proofs.RecognitionLaws.{open_most}
 use Rattle.line.specs.Receiver.{kept_bytes}
 use Rattle.line_verdict.specs.Verdict.{verdict_on}
 use Rattle.line_verdict.specs.VerdictLaws.{with-length}
 use Rattle.line_verdict.specs.VerdictOnLaws.{within-most, VerdictSays, verdict-says}
-use Rattle.line.specs.CallCases.{call-bad, call-short, call-skips, call_still_open, call-whole, call-begins-none}
+use Rattle.line.proofs.CallCases.{call-bad, call-short, call-skips, call_still_open, call-whole, call-begins-none}
 use Rattle.line_terms.specs.Line.{byte}
 use Rattle.line_verdict.specs.declared.Verdict.{Verdict}
 use Rattle.line_verdict.specs.declared.Verdict.TheVariants.{Bad, Short, Skips, StillOpen, Whole, BeginsNone}

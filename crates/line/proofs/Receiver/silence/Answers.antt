@@ -3,7 +3,7 @@ use Rattle.std.proofs.Common.{◌≡◌, ◌≤◌, sym, arith, length, rules}
 use Rattle.line_terms.specs.Line.{silence}
 use Rattle.line.specs.Receiver.{kept_bytes}
 use Rattle.line_verdict.specs.VerdictOnLaws.{within-most}
-use Rattle.line.specs.CallCases.{call-bad, call-short, call-silent}
+use Rattle.line.proofs.CallCases.{call-bad, call-short, call-silent}
 use Rattle.line.proofs.Receiver.silence.Goals as goal
 
 pub returns-then-not-within_range : goal.returns-then-not-within_range

@@ -1,7 +1,7 @@
 -- It is the reading of a block with a silence behind, for which there is memory enough.
 use Rattle.std.proofs.Common.{◌≡◌, arith, length, take, length-take-le}
-use Rattle.line_block.specs.BlockLaws.{read-declines}
-use Rattle.line.specs.RescanLaws.{silence_rescans}
+use Rattle.line_block.proofs.BlockLaws.{read-declines}
+use Rattle.line.proofs.RescanLaws.{silence_rescans}
 use Rattle.line.proofs.drain.drain_at_silence.Goals as goal
 
 pub returns-in-Refused : goal.returns-in-Refused

@@ -2,9 +2,9 @@
 -- what `read_rescans` asks.
 use Rattle.std.proofs.Common.{ℕ, ◌≤◌, ◌+◌, ◌-◌, ◌≡◌, ap, sym, ◌∙◌, false, List, [], ◌∷◌, ◌++◌, arith, length, take, drop, replicate, length-append, length-take-le, take_at}
 use Rattle.line_block.specs.Block.{block_read}
-use Rattle.line_block.specs.BlockLaws.{read-delivers, read-declines, delivers-place}
+use Rattle.line_block.proofs.BlockLaws.{read-delivers, read-declines, delivers-place}
 use Rattle.line_block.specs.declared.BlockAnswer.TheVariants.{Delivered}
-use Rattle.line.specs.RescanLaws.{second-size, second_open, read_rescans}
+use Rattle.line.proofs.RescanLaws.{second-size, second_open, read_rescans}
 use Rattle.laws.specs.Memory.{outcome}
 use Rattle.laws.specs.MemoryLaws.{over-length, copied}
 use Rattle.line.proofs.drain.rescan.Goals as goal

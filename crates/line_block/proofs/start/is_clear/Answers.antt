@@ -1,6 +1,6 @@
 -- The invariant: as long as no 68 was seen, none stands at the places looked at.
 use Rattle.std.proofs.lemmas.Bool.{false≢true}
-use Rattle.line_block.specs.SkipLaws.{passes_none, passes_join, passes-one}
+use Rattle.line_block.proofs.SkipLaws.{passes_none, passes_join, passes-one}
 use Rattle.std.proofs.Common.{ℕ, ◌+◌, ◌≡◌, sym, ◌∙◌, arith, add-zero}
 use Rattle.line_block.proofs.start.is_clear.Goals as goal
 use Rattle.line_block.proofs.start.is_clear.Goals.{then-line-at-eq104, else-line-at-eq104}

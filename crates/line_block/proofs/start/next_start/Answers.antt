@@ -1,5 +1,5 @@
 -- Near the end nothing is passed over; else each step passes over a part that holds no 68, and the parts join.
-use Rattle.line_block.specs.SkipLaws.{passes_none, passes_join, find_passes}
+use Rattle.line_block.proofs.SkipLaws.{passes_none, passes_join, find_passes}
 use Rattle.std.proofs.Common.{arith}
 use Rattle.line_block.proofs.start.next_start.Goals as goal
 

@@ -1,5 +1,5 @@
 -- The invariant: no 68 stands at the places passed; a stretch that is clear is passed with them.
-use Rattle.line_block.specs.SkipLaws.{passes_none, passes_join}
+use Rattle.line_block.proofs.SkipLaws.{passes_none, passes_join}
 use Rattle.std.proofs.Common.{arith}
 use Rattle.line_block.proofs.start.pass_clear.Goals as goal
 

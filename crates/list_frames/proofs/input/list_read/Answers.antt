@@ -1,6 +1,6 @@
 -- What the answer says of its numbers: the text is within its buffer, and at most 211 bytes are kept.
 use Rattle.std.proofs.Common.{sym, length-take-le}
-use Rattle.listing.specs.StepLaws.{ListedWithin, listed-within}
+use Rattle.listing.proofs.StepLaws.{ListedWithin, listed-within}
 use Rattle.list_frames.proofs.input.list_read.Goals as goal
 use Rattle.list_frames.proofs.input.list_read.Goals.{In-Listed}
 

@@ -2,7 +2,7 @@
 -- stand end to end.
 use Rattle.std.proofs.Common.{◌≤◌, sym, inl, length, arith, length-take-le}
 use Rattle.listing.specs.Step.{is_end}
-use Rattle.listing.specs.StepLaws.{list_short, list_refused, list_within, list_asked, list_delivers}
+use Rattle.listing.proofs.StepLaws.{list_short, list_refused, list_within, list_asked, list_delivers}
 use Rattle.listing.proofs.step.list_step.Goals as goal
 use Rattle.listing.proofs.step.list_step.Goals.{In-Delivered}
 

@@ -1,7 +1,7 @@
 -- The start, a turn and the way out are the laws of `Lining`.
 use Rattle.std.proofs.Common.{sym, subst, arith}
-use Rattle.frame.specs.EndToEndLaws.{NextFrame, next-frame}
-use Rattle.listing.specs.LinesLaws.{lining_start, lining_fits, lining_asked, lining_next, lining_end}
+use Rattle.frame.proofs.EndToEndLaws.{NextFrame, next-frame}
+use Rattle.listing.proofs.LinesLaws.{lining_start, lining_fits, lining_asked, lining_next, lining_end}
 use Rattle.listing.proofs.step.write_lines.Goals as goal
 use Rattle.listing.proofs.step.write_lines.Goals.{After-next_end-next}
 

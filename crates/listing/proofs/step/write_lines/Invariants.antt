@@ -1,6 +1,6 @@
 -- The lines of the frames passed are written. The measure is what is left of the frames.
 use Rattle.std.proofs.Common.{◌-◌, length}
-use Rattle.listing.specs.LinesLaws.{Lining}
+use Rattle.listing.proofs.LinesLaws.{Lining}
 use Rattle.listing.proofs.step.write_lines.Given as goal
 
 abbrev pub invariant-loop-at : goal.invariant-loop-at

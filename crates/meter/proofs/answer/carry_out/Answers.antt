@@ -17,13 +17,13 @@ use Rattle.item_command.specs.declared.Command.{Command}
 use Rattle.item_command.specs.declared.Command.TheVariants.{ReadData, ReadAddress, WriteData, WriteAddress, ChangePassword}
 use Rattle.meter_decision.specs.Request.{new_level_of, new_password_of}
 use Rattle.meter_decision.specs.Decision.{checks_of}
-use Rattle.meter_decision.specs.ChecksLaws.{named-level}
-use Rattle.meter_decision.specs.DecisionLaws.{Carries, carries}
+use Rattle.meter_decision.proofs.ChecksLaws.{named-level}
+use Rattle.meter_decision.proofs.DecisionLaws.{Carries, carries}
 use Rattle.meter_decision.specs.declared.Decision.{Decision}
 use Rattle.meter.specs.Meter.{with_passwords, untouched}
 use Rattle.meter.specs.declared.Meter.{Meter}
 use Rattle.meter.specs.Answer.{Treatment, replies, reply_data, meter_after, carried_out, delivered, value_asked}
-use Rattle.meter.specs.CarriedOutLaws.{normally, treated_as, carried-decided}
+use Rattle.meter.proofs.CarriedOutLaws.{normally, treated_as, carried-decided}
 use Rattle.meter.proofs.answer.carry_out.Goals as goal
 use Rattle.meter.proofs.answer.carry_out.Goals.{After-decide-decision, In-NewAddress, In-NewPassword, Start}
 

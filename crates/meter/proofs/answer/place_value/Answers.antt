@@ -11,7 +11,7 @@ use Rattle.laws.specs.Memory.{Outcome, outcome, over}
 use Rattle.laws.specs.MemoryLaws.{run-from}
 use Rattle.laws.specs.JoinLaws.{two-over}
 use Rattle.item.specs.Table.{item_of}
-use Rattle.item.specs.TableLaws.{listed-fits}
+use Rattle.item.proofs.TableLaws.{listed-fits}
 use Rattle.item.specs.declared.table.Item.{Item}
 use Rattle.item.specs.declared.table.Lookup.{Lookup}
 use Rattle.item.specs.declared.table.Lookup.TheVariants.{Listed, NotListed}
@@ -23,7 +23,7 @@ use Rattle.meter_holding.specs.HoldingLaws.{value_written_lem}
 use Rattle.meter_holding.specs.declared.Held.{Held}
 use Rattle.meter_holding.specs.declared.Held.TheVariants.{Length}
 use Rattle.meter.specs.Meter.{MeterSized, value_held}
-use Rattle.meter.specs.MeterLaws.{value-length}
+use Rattle.meter.proofs.MeterLaws.{value-length}
 use Rattle.meter.specs.Answer.{reply_data, value_asked}
 use borrow.Author.Rules.{rules}
 use Rattle.meter.proofs.answer.place_value.Goals as goal

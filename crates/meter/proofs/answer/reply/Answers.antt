@@ -1,5 +1,5 @@
 -- The data fit a frame and the frame fits the output buffer, so the frame is written and the other way out is not taken.
-use Rattle.meter.specs.CarriedOutLaws.{reply-length, reply-delivered}
+use Rattle.meter.proofs.CarriedOutLaws.{reply-length, reply-delivered}
 use Rattle.meter.proofs.answer.reply.Goals as goal
 use Rattle.meter.proofs.answer.reply.Goals.{After-write_frame, Start}
 

@@ -17,8 +17,8 @@ use Rattle.meter.specs.Meter.{MeterSized, untouched}
 use Rattle.meter.specs.declared.Meter.{Meter}
 use Rattle.meter.specs.declared.FrameAnswer.TheVariants.{Replied}
 use Rattle.meter.specs.Answer.{reply_data, value_asked, answered_with}
-use Rattle.meter.specs.CarriedOutLaws.{reply-length, reply-delivered}
-use Rattle.meter.specs.MeterAfterLaws.{reply-fits}
+use Rattle.meter.proofs.CarriedOutLaws.{reply-length, reply-delivered}
+use Rattle.meter.proofs.MeterAfterLaws.{reply-fits}
 use borrow.Author.Rules.{rules}
 use Rattle.meter.proofs.answer.reply_value.Goals as goal
 use Rattle.meter.proofs.answer.reply_value.Goals.{After-place_value, After-write_frame_in_place, In-Length, In-Length-write_frame_in_place, Start}

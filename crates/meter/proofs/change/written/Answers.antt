@@ -9,7 +9,7 @@ use Rattle.laws.specs.Part.{part}
 use Rattle.laws.specs.PartLaws.{part_length, copied-whole}
 use Rattle.item.specs.declared.table.Lookup.{Lookup}
 use Rattle.meter_decision.specs.Request.{item_asked, operator_of, written_value}
-use Rattle.meter_decision.specs.DecisionLaws.{WriteHolds, write_holds}
+use Rattle.meter_decision.proofs.DecisionLaws.{WriteHolds, write_holds}
 use Rattle.meter_holding.specs.Holding.{location_of, registers_with, registers_after}
 use Rattle.meter_holding.specs.HoldingLaws.{registers-after}
 use Rattle.item.specs.Table.{item_of}

@@ -1,6 +1,6 @@
 -- A rate is a column.
 use Rattle.std.proofs.Common.{sym}
-use Rattle.meter_counting.specs.RowsLaws.{rate-column}
+use Rattle.meter_counting.proofs.RowsLaws.{rate-column}
 use Rattle.meter_counting.proofs.rows.pulsed.Goals as goal
 
 pub bounds-row-column : goal.bounds-row-column

@@ -1,7 +1,7 @@
 -- The laws of `Shifting` say what a turn and the end make of it.
 use Rattle.std.proofs.Common.{[], ◌∙◌}
 use Rattle.laws.specs.ShiftLaws.{shifting_next, shifting_end}
-use Rattle.meter_counting.specs.RowsLaws.{settled_fronts}
+use Rattle.meter_counting.proofs.RowsLaws.{settled_fronts}
 use Rattle.meter_counting.proofs.rows.settled.Goals as goal
 
 pub loop-i-preserved : goal.loop-i-preserved

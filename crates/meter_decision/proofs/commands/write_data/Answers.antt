@@ -12,7 +12,7 @@ use Rattle.item.specs.declared.table.Item.{Item}
 use Rattle.item.specs.declared.table.Lookup.TheVariants.{Listed}
 use Rattle.meter_decision.specs.Request.{item_asked, level_of, password_of, written_value}
 use Rattle.meter_decision.specs.Decision.{authorised, checks_of, decided}
-use Rattle.meter_decision.specs.ChecksLaws.{check_true, write_parsed}
+use Rattle.meter_decision.proofs.ChecksLaws.{check_true, write_parsed}
 use Rattle.meter_decision.specs.declared.Decision.TheVariants.{Error}
 use Rattle.meter_decision.proofs.commands.write_data.Goals as goal
 

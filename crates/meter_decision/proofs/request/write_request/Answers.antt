@@ -1,6 +1,6 @@
 -- The length is from 12 to 50.
 use Rattle.std.proofs.Common.{sym, arith}
-use Rattle.item_range.specs.RangeLaws.{within-iff}
+use Rattle.item_range.proofs.RangeLaws.{within-iff}
 use Rattle.meter_decision.proofs.request.write_request.Goals as goal
 
 pub identifier_at-requires : goal.identifier_at-requires

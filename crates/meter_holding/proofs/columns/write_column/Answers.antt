@@ -1,8 +1,8 @@
 -- The laws of `Joining` say what a turn and the end make of it.
 use Rattle.std.proofs.Common.{◌≡◌, ◌+◌, ◌-◌, ℕ, List, length, take, drop, ap, ◌∙◌, arith, length-take, length-drop}
 use Rattle.energy.specs.Energies.{reading_at}
-use Rattle.energy.specs.ReadingLaws.{reading-length}
-use Rattle.energy.specs.ColumnsLaws.{column-length, column-joined}
+use Rattle.energy.proofs.ReadingLaws.{reading-length}
+use Rattle.energy.proofs.ColumnsLaws.{column-length, column-joined}
 use Rattle.laws.specs.Memory.{over}
 use Rattle.laws.specs.MemoryLaws.{copied}
 use Rattle.laws.specs.JoinLaws.{joining_start, joining_room, joining_next}

@@ -1,6 +1,6 @@
 -- The laws of `Joining` say what a turn and the end make of it.
 use Rattle.std.proofs.Common.{◌+◌, ℕ, ap, arith, length-take, length-drop}
-use Rattle.energy.specs.ColumnsLaws.{column-length, columns-length, columns-joined}
+use Rattle.energy.proofs.ColumnsLaws.{column-length, columns-length, columns-joined}
 use Rattle.laws.specs.JoinLaws.{joining_start, joining_room, joining_next}
 use Rattle.meter_holding.proofs.columns.write_columns.Goals as goal
 

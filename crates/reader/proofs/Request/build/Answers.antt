@@ -3,7 +3,7 @@ use Rattle.std.proofs.Common.{◌≡◌, sym, ◌∙◌, ap, true}
 use Rattle.item_command.specs.Command.{control_for}
 use Rattle.reader_allowed.specs.Allowed.{is_admitted}
 use Rattle.reader.specs.Allowed.{is_allowed}
-use Rattle.reader.specs.BuildingLaws.{allowed_counts, built-written}
+use Rattle.reader.proofs.BuildingLaws.{allowed_counts, built-written}
 use Rattle.reader.proofs.Request.build.Goals as goal
 use Rattle.reader.proofs.Request.build.Goals.{In-Allowed}
 

@@ -10,7 +10,7 @@ use Rattle.frame_parts.specs.PartsLaws.{one-spans, address-field, data_fits, dat
 use Rattle.reader_judgement.specs.Judging.{answers, reply_value, data_judgement}
 use Rattle.reader_judgement.specs.declared.Judgement.TheVariants.{Refused}
 use Rattle.reader.specs.Judging.{is_judged, is_answer, call_checks, frame_checks, judgement_of}
-use Rattle.reader.specs.JudgingLaws.{data_judgement_fits, judged_by}
+use Rattle.reader.proofs.JudgingLaws.{data_judgement_fits, judged_by}
 use Rattle.reader.specs.declared.Request.{Request}
 use Rattle.reader.proofs.Request.judge.Goals as goal
 use Rattle.reader.proofs.Request.judge.Goals.{After-is_answer, After-unmask_data-length}

@@ -1,6 +1,6 @@
 -- The data of a read are the four bytes of the identifier.
 use Rattle.std.proofs.Common.{sym}
-use Rattle.item_identifier.specs.IdentifierLaws.{identifier-four}
+use Rattle.item_identifier.proofs.IdentifierLaws.{identifier-four}
 use Rattle.reader.specs.Building.{sent_data}
 use Rattle.reader.proofs.build.put_data.Goals as goal
 

@@ -2,9 +2,9 @@
 use Rattle.std.proofs.Common.{◌+◌, take, sym, arith, rules, length-take-le}
 use Rattle.laws.specs.Puts.{Puts, puts_store, puts-part}
 use Rattle.item_identifier.specs.Identifier.{identifier_bytes}
-use Rattle.item_identifier.specs.IdentifierLaws.{identifier-four}
+use Rattle.item_identifier.proofs.IdentifierLaws.{identifier-four}
 use Rattle.reader.specs.Allowed.{RequestSized}
-use Rattle.reader.specs.BuildingLaws.{write_parts}
+use Rattle.reader.proofs.BuildingLaws.{write_parts}
 use Rattle.reader.proofs.build.put_write.Goals as goal
 
 pub returns : goal.returns

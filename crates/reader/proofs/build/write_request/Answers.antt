@@ -4,10 +4,10 @@ use Rattle.std.proofs.Common.{ℕ, ◌+◌, ◌-◌, ◌≤◌, ◌≡◌, List,
 use Rattle.std.proofs.Math.ListN.{set}
 use Rattle.laws.specs.Memory.{over}
 use Rattle.laws.specs.MemoryLaws.{run-from}
-use Rattle.frame.specs.FrameLaws.{frame-for-length}
+use Rattle.frame.proofs.FrameLaws.{frame-for-length}
 use Rattle.frame_parts.specs.declared.Written.TheVariants.{Length}
 use Rattle.reader.specs.Building.{wake_up, sent_data}
-use Rattle.reader.specs.BuildingLaws.{counted-length, data_placed, in_place_length, in_place_over}
+use Rattle.reader.proofs.BuildingLaws.{counted-length, data_placed, in_place_length, in_place_over}
 use Rattle.reader.proofs.build.write_request.Goals as goal
 use Rattle.reader.proofs.build.write_request.Goals.{After-write_frame_in_place}
 

@@ -1,6 +1,6 @@
 -- By the record: a symbol is heard, and the others are calls of the host, to which nothing is replied.
 use Rattle.replay.specs.Replay.{played}
-use Rattle.replay.specs.PlayLaws.{quiet-outcome}
+use Rattle.replay.proofs.PlayLaws.{quiet-outcome}
 use Rattle.replay.proofs.play.play.Goals as goal
 
 pub returns-in-Byte : goal.returns-in-Byte

@@ -4,7 +4,7 @@ use Rattle.std.proofs.lemmas.List.{length-replicate}
 use Rattle.line_terms.specs.Line.{byte}
 use Rattle.replay.specs.Replay.{Play}
 use Rattle.replay.specs.Play.{played_outcome}
-use Rattle.replay.specs.PlayLaws.{both-within, heard-can-put, heard-delivered}
+use Rattle.replay.proofs.PlayLaws.{both-within, heard-can-put, heard-delivered}
 use Rattle.replay.proofs.play.play_byte.Goals as goal
 
 pub put_delivered-requires : goal.put_delivered-requires

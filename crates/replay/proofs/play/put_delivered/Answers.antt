@@ -2,7 +2,7 @@
 use Rattle.std.proofs.Common.{ℕ, sym, subst, ◌∙◌, List, arith, take, length-take-le}
 use Rattle.frame.specs.EndToEnd.{cut}
 use Rattle.replay.specs.Play.{played_outcome, HasRoom, CanPut}
-use Rattle.replay.specs.PlayLaws.{Puts, frames-puts, quiet-outcome, not-refused}
+use Rattle.replay.proofs.PlayLaws.{Puts, frames-puts, quiet-outcome, not-refused}
 use Rattle.replay.proofs.play.put_delivered.Goals as goal
 use Rattle.replay.proofs.play.put_delivered.Goals.{After-put_frames-put, In-Delivered, Start}
 

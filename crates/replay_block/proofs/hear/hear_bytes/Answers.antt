@@ -1,6 +1,6 @@
 -- A turn hears a byte that stands whole at the place, and the loop is left where none stands.
 use Rattle.std.proofs.Common.{◌+◌, ◌≤◌, length, sym, refl, ◌∙◌, true≢false, arith, rules}
-use Rattle.replay_block.specs.HearLaws.{heard_as, heard-none, stands-front, hears-byte}
+use Rattle.replay_block.proofs.HearLaws.{heard_as, heard-none, stands-front, hears-byte}
 use Rattle.replay_block.proofs.hear.hear_bytes.Goals as goal
 use Rattle.replay_block.proofs.hear.hear_bytes.Goals.{Else-not-stands_at}
 

@@ -1,7 +1,7 @@
 -- The invariant: what has been heard so far, and that the loop goes on as long as nothing is delivered. The measure is what is left of the block.
 use Rattle.std.proofs.Common.{◌≡◌, ◌-◌, ◌/◌, length}
 use Rattle.replay_block.specs.Hear.{is_quiet, HeardOn}
-use Rattle.replay_block.specs.HearLaws.{heard_so}
+use Rattle.replay_block.proofs.HearLaws.{heard_so}
 use Rattle.replay_block.proofs.hear.hear_bytes.Given as goal
 
 abbrev pub invariant-loop-going : goal.invariant-loop-going

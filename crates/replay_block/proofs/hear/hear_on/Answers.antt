@@ -2,7 +2,7 @@
 use Rattle.std.proofs.Common.{◌≡◌, sym, refl, ◌∙◌, subst, true≢false, arith, rules}
 use mathlib.Core.Bool.{and-eq-true_iff}
 use Rattle.replay_block.specs.Hear.{NoneStands}
-use Rattle.replay_block.specs.HearLaws.{heard_as, heard-none, heard-then, round-less}
+use Rattle.replay_block.proofs.HearLaws.{heard_as, heard-none, heard-then, round-less}
 use Rattle.replay_block.proofs.hear.hear_on.Goals as goal
 
 pub loop-going-init : goal.loop-going-init

@@ -2,7 +2,7 @@
 -- receiver stands there. The measure is what is left of the block, and one round while the loop goes on.
 use Rattle.std.proofs.Common.{◌≡◌, true, false, length}
 use Rattle.replay_block.specs.Hear.{NoneStands, is_quiet, HeardOn}
-use Rattle.replay_block.specs.HearLaws.{rounds_left}
+use Rattle.replay_block.proofs.HearLaws.{rounds_left}
 use Rattle.replay_block.proofs.hear.hear_on.Given as goal
 
 abbrev pub invariant-loop-going : goal.invariant-loop-going

@@ -1,7 +1,7 @@
 -- The bytes, and behind them the silence where one stands.
 use Rattle.std.proofs.Common.{◌+◌, ◌≤◌, length, sym, ◌∙◌, subst, true≢false, arith}
 use Rattle.replay_block.specs.Hear.{NoneStands}
-use Rattle.replay_block.specs.HearLaws.{quiet_none, stands-front, hears-silence}
+use Rattle.replay_block.proofs.HearLaws.{quiet_none, stands-front, hears-silence}
 use Rattle.replay_block.proofs.hear.hear_round.Goals as goal
 use Rattle.replay_block.proofs.hear.hear_round.Goals.{Else-not-stands_at}
 

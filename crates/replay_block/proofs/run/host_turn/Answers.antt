@@ -1,8 +1,8 @@
 -- By what stands at the place: no good record, and nothing is played; or a call of the host.
 use Rattle.std.proofs.Common.{drop, sym, ◌∙◌, arith, length-drop}
-use Rattle.trace.specs.TraceLaws.{good-within}
-use Rattle.replay_block.specs.HearLaws.{host-stands}
-use Rattle.replay_block.specs.RunLaws.{host-goes, none-turns, ended-stops, refused-stops}
+use Rattle.trace.proofs.TraceLaws.{good-within}
+use Rattle.replay_block.proofs.HearLaws.{host-stands}
+use Rattle.replay_block.proofs.RunLaws.{host-goes, none-turns, ended-stops, refused-stops}
 use Rattle.replay_block.proofs.run.host_turn.Goals as goal
 
 pub returns-in-Ended : goal.returns-in-Ended

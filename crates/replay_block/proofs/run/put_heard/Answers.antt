@@ -3,10 +3,10 @@ use Rattle.std.proofs.Common.{◌≡◌, ◌+◌, ◌-◌, length, take, drop, s
 use Rattle.frame.specs.EndToEnd.{cut}
 use Rattle.listing.specs.Lines.{lines_of}
 use Rattle.replay_frames.specs.Putting.{replies_to}
-use Rattle.replay.specs.PlayLaws.{both-within, Puts, frames-puts, not-refused}
+use Rattle.replay.proofs.PlayLaws.{both-within, Puts, frames-puts, not-refused}
 use Rattle.replay.specs.Replay.{state_of}
 use Rattle.replay_block.specs.Block.{went_by}
-use Rattle.replay_block.specs.RunLaws.{heard-room, heard-turns, not-delivered, turns_as}
+use Rattle.replay_block.proofs.RunLaws.{heard-room, heard-turns, not-delivered, turns_as}
 use Rattle.replay_block.proofs.run.put_heard.Goals as goal
 use Rattle.replay_block.proofs.run.put_heard.Goals.{After-put_frames-put, In-Delivered, In-Put, Start}
 

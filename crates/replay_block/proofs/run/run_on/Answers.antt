@@ -1,6 +1,6 @@
 -- A turn of the loop is one behind those before, and the loop is left where one plays nothing.
 use Rattle.std.proofs.Common.{subst, ltb-false}
-use Rattle.replay_block.specs.RunLaws.{Running, running_start, running_next, running_less}
+use Rattle.replay_block.proofs.RunLaws.{Running, running_start, running_next, running_less}
 use Rattle.replay_block.proofs.run.run_on.Goals as goal
 
 pub loop-going-init : goal.loop-going-init

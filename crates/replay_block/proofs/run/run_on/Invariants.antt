@@ -1,7 +1,7 @@
 -- The invariant is `Running`. The measure is what is left of the block, and one turn more while it goes on.
 use Rattle.std.proofs.Common.{◌+◌, ◌-◌, ◌*◌, length}
 use Rattle.laws.specs.Test.{pick}
-use Rattle.replay_block.specs.RunLaws.{Running}
+use Rattle.replay_block.proofs.RunLaws.{Running}
 use Rattle.replay_block.proofs.run.run_on.Given as goal
 
 abbrev pub invariant-loop-going : goal.invariant-loop-going

@@ -1,9 +1,9 @@
 -- Where neither a byte nor a silence stands, the turn is the host's; else what is heard is put to the meter.
 use Rattle.std.proofs.Common.{◌≡◌, ℕ, ◌||◌, sym, ◌∙◌, arith}
 use Rattle.std.proofs.lemmas.List.{length-replicate}
-use Rattle.replay.specs.PlayLaws.{both-within}
+use Rattle.replay.proofs.PlayLaws.{both-within}
 use Rattle.replay_block.specs.Hear.{stands_at}
-use Rattle.replay_block.specs.HearLaws.{none-stands, heard-later}
+use Rattle.replay_block.proofs.HearLaws.{none-stands, heard-later}
 use Rattle.replay_block.proofs.run.turn.Goals as goal
 use Rattle.replay_block.proofs.run.turn.Goals.{After-stands_at-silence}
 

@@ -1,7 +1,7 @@
 -- The number is put behind the label.
 use Rattle.std.proofs.Common.{◌+◌, ◌≡◌, append_assoc, arith, length, take, length-append, length-take-le}
 use Rattle.replay_text.specs.Texts.{labelled}
-use Rattle.replay_text.specs.TextLaws.{puts_on}
+use Rattle.replay_text.proofs.TextLaws.{puts_on}
 use Rattle.replay_text.proofs.put.put_labelled.Goals as goal
 use Rattle.replay_text.proofs.put.put_labelled.Goals.{After-put-next}
 

@@ -1,7 +1,7 @@
 -- The digits that are written are the number in decimal, and at most twenty.
 use Rattle.std.proofs.Common.{◌≤◌, ◌<◌, ◌^◌, ◌≡◌, ◌∙◌, arith, length, take, length-append, length-take-le}
 use Rattle.replay_text.specs.Decimal.{decimal}
-use Rattle.replay_text.specs.DecimalLaws.{written-decimal, decimal-most}
+use Rattle.replay_text.proofs.DecimalLaws.{written-decimal, decimal-most}
 use Rattle.replay_text.proofs.put.put_number.Goals as goal
 use Rattle.replay_text.proofs.put.put_number.Goals.{After-decimal-count}
 

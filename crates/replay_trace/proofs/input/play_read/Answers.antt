@@ -1,6 +1,6 @@
 -- What the answer says of its numbers: the text is within its buffer, and at most 6 bytes are kept.
 use Rattle.std.proofs.Common.{◌≤◌, length, sym, subst, length-take-le}
-use Rattle.replay_block.specs.BlockWords.{AnswerWithin, answer-within}
+use Rattle.replay_block.proofs.BlockWords.{AnswerWithin, answer-within}
 use Rattle.replay_block.specs.declared.BlockAnswer.{BlockAnswer}
 use Rattle.replay_trace.proofs.input.play_read.Goals as goal
 use Rattle.replay_trace.proofs.input.play_read.Goals.{In-Played, In-Stopped}

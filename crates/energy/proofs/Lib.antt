@@ -1,0 +1,4 @@
+pub mod ColumnsLaws
+pub mod Decoded
+pub mod RangeLaws
+pub mod ReadingLaws

@@ -1,0 +1,10 @@
+pub mod Demand2
+pub mod ExchangeLaws
+pub mod Foreign
+pub mod Hearing
+pub mod HearingLaws
+pub mod Reads
+pub mod ReplyLaws
+pub mod RequestFrameLaws
+pub mod Said
+pub mod WritesAcross

@@ -1,0 +1,7 @@
+pub mod ChecksumLaws
+pub mod EndToEndLaws
+pub mod Examples
+pub mod FrameLaws
+pub mod RecognitionLaws
+pub mod StageLaws
+pub mod TakenApartLaws

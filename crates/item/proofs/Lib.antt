@@ -1,0 +1,4 @@
+pub mod ContentLaws
+pub mod Examples
+pub mod TableLaws
+pub mod TableWords

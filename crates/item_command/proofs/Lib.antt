@@ -1,0 +1,3 @@
+pub mod AddresseeLaws
+pub mod CommandLaws
+pub mod ControlWords

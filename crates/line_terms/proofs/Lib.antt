@@ -1,0 +1,12 @@
+pub mod BeginsLaws
+pub mod Closed
+pub mod FoundFrames
+pub mod FramesFew
+pub mod NewFrames
+pub mod OneChoice
+pub mod PlaceLaws
+pub mod RestLaws
+pub mod ScanCertain
+pub mod ScanLaws
+pub mod TakenLaws
+pub mod Turns

@@ -1,0 +1,16 @@
+pub mod AnswerLaws
+pub mod Calls
+pub mod CarriedOutLaws
+pub mod Changes
+pub mod FrameRight
+pub mod FrameTerms
+pub mod FreshMeter
+pub mod HostWords
+pub mod MeterAfterLaws
+pub mod MeterLaws
+pub mod PutToLaws
+pub mod Ranges
+pub mod Replies
+pub mod Said
+pub mod Silence
+pub mod Writes

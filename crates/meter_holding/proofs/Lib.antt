@@ -1,0 +1,4 @@
+pub mod EnergiesWords
+pub mod FreshWords
+pub mod RangesWords
+pub mod Said

@@ -1,0 +1,9 @@
+pub mod ByHandLaws
+pub mod PlayLaws
+pub mod Replayed
+pub mod ReplayedDone
+pub mod Said
+pub mod StartWords
+pub mod StateLaws
+pub mod StepLaws
+pub mod StepWords

@@ -1,0 +1,9 @@
+pub mod BlockCalls
+pub mod BlockLaws
+pub mod BlockWords
+pub mod Blocks
+pub mod BlocksDone
+pub mod CutAnywhere
+pub mod HearLaws
+pub mod ReadingLaws
+pub mod RunLaws

@@ -1,0 +1,4 @@
+pub mod DecimalLaws
+pub mod Said
+pub mod TextLaws
+pub mod TextWords

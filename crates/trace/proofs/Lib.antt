@@ -1,0 +1,4 @@
+pub mod FrontCases
+pub mod Said
+pub mod TraceLaws
+pub mod TraceWords
