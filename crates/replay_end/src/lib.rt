@@ -1,4 +1,6 @@
 // How a replay in blocks ends: whether an answer is the last of a trace, and what the program then says.
+#![tactic(auto)]
+
 ghost use Rattle.std.specs.Prelude.{◌≡◌};
 ghost use Rattle.replay_end.specs.End.{is_last, last_message};
 
