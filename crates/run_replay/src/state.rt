@@ -6,6 +6,7 @@ use run_replay_parts::shown;
 use run_text::count::sum;
 use run_text::read::{BytesRead, Numbers, read_bytes};
 use run_text::write::{write, write_numbered};
+use std::io::Stdout;
 
 // The replay, the place of its next step, the size of the output buffer for a step, and how many bytes the trace has at the front of a
 // buffer beside this.
@@ -38,12 +39,12 @@ impl State {
     }
 
     // With a replay of an address from its start.
-    pub(crate) fn start(self, text: &[u8]) -> State {
+    pub(crate) fn start(self, to: Stdout, text: &[u8]) -> State {
         let started = replay::start(address_of(text));
         let answer = started.answer;
         match answer {
-            HostAnswer::Done => write(b"started\n"),
-            HostAnswer::Refused(refusal) => write_numbered(b"refused ", refusal as usize),
+            HostAnswer::Done => write(to, b"started\n"),
+            HostAnswer::Refused(refusal) => write_numbered(to, b"refused ", refusal as usize),
         }
         let replay = started.state;
         self.with_replay(replay)
@@ -72,13 +73,13 @@ impl State {
     }
 
     // With more bytes behind the trace.
-    pub(crate) fn more(self, text: &[u8], trace: &mut [u8]) -> State {
+    pub(crate) fn more(self, to: Stdout, text: &[u8], trace: &mut [u8]) -> State {
         let length = self.length;
         if trace.len() < length {
             return self;
         }
         let BytesRead::Count(n) = read_bytes(text, &mut trace[length..]) else {
-            write(b"no bytes\n");
+            write(to, b"no bytes\n");
             return self;
         };
         let mut next = self;
@@ -87,20 +88,20 @@ impl State {
     }
 
     // With a value outside its range.
-    pub(crate) fn broken(self, word: &[u8]) -> State {
+    pub(crate) fn broken(self, to: Stdout, word: &[u8]) -> State {
         let replay = self.replay;
-        self.with_replay(broken(replay, word))
+        self.with_replay(broken(to, replay, word))
     }
 
     // As it is, and shown.
-    pub(crate) fn show(self) -> State {
-        shown::show(self.replay);
+    pub(crate) fn show(self, to: Stdout) -> State {
+        shown::show(to, self.replay);
         self
     }
 
     // As it is, after a reading was shown, by direction, row and column.
-    pub(crate) fn reading(self, numbers: Numbers) -> State {
-        shown::show_reading(self.replay, numbers);
+    pub(crate) fn reading(self, to: Stdout, numbers: Numbers) -> State {
+        shown::show_reading(to, self.replay, numbers);
         self
     }
 }

@@ -6,38 +6,39 @@ use replay_walker::walk_from;
 use run_replay_parts::memory::{MEMORY, at_most, write_text};
 use run_text::memory::FILL;
 use run_text::write::{write, write_number, write_numbered, write_two};
+use std::io::Stdout;
 
 // Writes the answer, unless a record is played and more steps are to come; and says whether they are.
-fn goes_on(answer: StepAnswer, left: u32) -> bool {
+fn goes_on(to: Stdout, answer: StepAnswer, left: u32) -> bool {
     match answer {
         StepAnswer::Done => {
-            write(b"done\n");
+            write(to, b"done\n");
             false
         }
         StepAnswer::Refused(refusal) => {
-            write_numbered(b"refused ", refusal as usize);
+            write_numbered(to, b"refused ", refusal as usize);
             false
         }
         StepAnswer::BadRecord { refusal, place } => {
-            write(b"bad ");
-            write_two(refusal as usize, b" ", place, b"\n");
+            write(to, b"bad ");
+            write_two(to, refusal as usize, b" ", place, b"\n");
             false
         }
         StepAnswer::Played { text, lines, next } => {
             if 0 < left {
                 return true;
             }
-            write(b"played ");
-            write_two(text, b" ", lines, b" ");
-            write_number(next, b"\n");
+            write(to, b"played ");
+            write_two(to, text, b" ", lines, b" ");
+            write_number(to, next, b"\n");
             false
         }
     }
 }
 
 // The place after an answer: that of the next record where one is played.
-fn place_after(answer: StepAnswer, place: usize) -> usize {
-    match answer {
+fn place_after(answer: &StepAnswer, place: usize) -> usize {
+    match *answer {
         StepAnswer::Done => place,
         StepAnswer::Refused(_) => place,
         StepAnswer::BadRecord {
@@ -53,8 +54,8 @@ fn place_after(answer: StepAnswer, place: usize) -> usize {
 }
 
 // How many bytes of text an answer says.
-fn text_of(answer: StepAnswer) -> usize {
-    match answer {
+fn text_of(answer: &StepAnswer) -> usize {
+    match *answer {
         StepAnswer::Done => 0,
         StepAnswer::Refused(_) => 0,
         StepAnswer::BadRecord {
@@ -77,25 +78,25 @@ struct Made {
 }
 
 // One step in an output buffer that is filled before it, with so many left to make.
-fn step(state: State, left: u32, trace: &[u8]) -> Made {
+fn step(to: Stdout, state: State, left: u32, trace: &[u8]) -> Made {
     let mut out = [FILL; MEMORY];
     let size = at_most(MEMORY, state.room);
     let replay = state.replay;
     let place = state.place;
     let stepped = walk_from(trace, place, replay, &mut out[0..size]);
     let answer = stepped.answer;
-    write_text(&out, text_of(answer));
+    write_text(to, &out, text_of(&answer));
     let after = stepped.state;
     let mut next = state.with_replay(after);
-    next.place = place_after(answer, place);
+    next.place = place_after(&answer, place);
     Made {
         state: next,
-        more: goes_on(answer, left),
+        more: goes_on(to, answer, left),
     }
 }
 
 // So many steps over the trace at the front of its buffer, or fewer where one plays nothing.
-pub(crate) fn steps(state: State, count: u32, trace: &[u8]) -> State {
+pub(crate) fn steps(to: Stdout, state: State, count: u32, trace: &[u8]) -> State {
     let length = state.length;
     if trace.len() < length {
         return state;
@@ -104,7 +105,7 @@ pub(crate) fn steps(state: State, count: u32, trace: &[u8]) -> State {
     let mut left = count;
     while 0 < left {
         left -= 1;
-        let made = step(present, left, &trace[0..length]);
+        let made = step(to, present, left, &trace[0..length]);
         present = made.state;
         if !made.more {
             return present;
