@@ -17,43 +17,45 @@
 //     counts                            the text of the session's records, frames and replies
 //     usage N                           the text of how the replay program is called; why is 0 for asked, 1 for arguments, 2 for the address
 //     address TEXT                      the address that the replay program reads from a text
+#![tactic(auto)]
+
 mod block;
 mod call;
 mod state;
 
 use block::play;
-use slice_bytes::find;
 use call::{Shown, Verb, shown_of, verb_of};
-use libc::STDIN_FILENO;
 use run_replay_parts::{shown, text};
-use run_text::read::{Numbers, is_comment, read_numbers};
+use run_text::read::{Numbers, is_comment, read_input, read_numbers};
 use run_text::write::{write, write_line};
+use slice_bytes::find;
 use state::{BUFFER, State};
+use std::io::Stdout;
 
 // Carries out a call that changes nothing, or says that there is none. Where a call has no numbers, or others than it takes, they are zeros.
-fn show(state: State, word: &[u8], behind: &[u8], numbers: Numbers) {
+fn show(to: Stdout, state: State, word: &[u8], behind: &[u8], numbers: Numbers) {
     let session = state.session;
     let room = state.room;
     let call = shown_of(word);
     match call {
-        Shown::State => shown::show(session.state),
-        Shown::Reading => shown::show_reading(session.state, numbers),
-        Shown::Refusal => text::refusal(numbers.d, session.place, room),
-        Shown::Counts => text::counts(session.records, session.frames, session.replies, room),
-        Shown::Usage => text::usage(numbers.d, room),
-        Shown::Address => text::address(behind),
+        Shown::State => shown::show(to, session.state),
+        Shown::Reading => shown::show_reading(to, session.state, numbers),
+        Shown::Refusal => text::refusal(to, numbers.d, session.place, room),
+        Shown::Counts => text::counts(to, session.records, session.frames, session.replies, room),
+        Shown::Usage => text::usage(to, numbers.d, room),
+        Shown::Address => text::address(to, behind),
         Shown::Other => {
-            write(b"not a call: ");
-            write(word);
-            write_line(behind);
+            write(to, b"not a call: ");
+            write(to, word);
+            write_line(to, behind);
         }
     }
 }
 
 // Carries out a line.
-fn run_line(state: State, line: &[u8], buffer: &mut [u8]) -> State {
+fn run_line(to: Stdout, state: State, line: &[u8], buffer: &mut [u8]) -> State {
     if is_comment(line) {
-        write_line(line);
+        write_line(to, line);
         return state;
     }
     let end = find(line, 0, line.len(), b' ');
@@ -62,40 +64,41 @@ fn run_line(state: State, line: &[u8], buffer: &mut [u8]) -> State {
     let word = &line[0..end];
     let verb = verb_of(word);
     match verb {
-        Verb::Begin => state.begin(behind),
-        Verb::Called => state.called(behind),
+        Verb::Begin => state.begin(to, behind),
+        Verb::Called => state.called(to, behind),
         Verb::Number => state.number(numbers),
         Verb::Sizes => state.sized(numbers),
-        Verb::Block => block::block(state, behind, buffer),
-        Verb::Play => play(state, numbers.d as usize, buffer),
-        Verb::Frames => state.frames(behind),
-        Verb::Break => state.broken(behind),
+        Verb::Block => block::block(to, state, behind, buffer),
+        Verb::Play => play(to, state, numbers.d as usize, buffer),
+        Verb::Frames => state.frames(to, behind),
+        Verb::Break => state.broken(to, behind),
         Verb::Other => {
-            show(state, word, behind, numbers);
+            show(to, state, word, behind, numbers);
             state
         }
     }
 }
 
 // Carries out each line of the text. The end of the text ends the last line too.
-fn run_lines(text: &[u8], buffer: &mut [u8]) {
+fn run_lines(to: Stdout, text: &[u8], buffer: &mut [u8]) {
     let mut state = State::new();
     let mut at = 0;
     while at < text.len() {
         let end = find(text, at, text.len(), b'\n');
-        state = run_line(state, &text[at..end], buffer);
+        state = run_line(to, state, &text[at..end], buffer);
         at = end + 1;
     }
 }
 
 // Carries out the script that the whole input is, of at most 100,000 bytes.
-fn main() {
+fn main(rt: HostRuntime) {
+    let to = rt.stdout();
     let mut text = [0u8; 100001];
-    let n = io::read_full(STDIN_FILENO, &mut text);
+    let n = read_input(rt.stdin(), &mut text);
     if n == text.len() {
-        write(b"script too long\n");
+        write(to, b"script too long\n");
         return;
     }
     let mut buffer = [0u8; BUFFER];
-    run_lines(&text[..n], &mut buffer);
+    run_lines(to, &text[..n], &mut buffer);
 }

@@ -1,5 +1,4 @@
 // What stands between two lines of the script, and the calls that change it and play no block.
-use slice_bytes::find;
 use replay::ReplayState;
 use replay_begin::{Opening, begin_with};
 use replay_block::Session;
@@ -10,13 +9,15 @@ use run_replay_parts::text::show;
 use run_script_answers::told::write_answer;
 use run_text::read::{Numbers, read_numbers};
 use run_text::write::write;
+use slice_bytes::find;
+use std::io::Stdout;
 
 // How many bytes the buffer of the blocks has.
 pub(crate) const BUFFER: usize = 256;
 
 // The session, how many bytes of the buffer of its blocks, which stands beside this, are lent to a call, how many are kept at its front, and how
 // many bytes of output buffer are lent.
-#[derive(Drop)]
+#[derive(Clone, Copy)]
 pub(crate) struct State {
     pub session: Session,
     pub size: usize,
@@ -38,10 +39,10 @@ impl State {
     }
 
     // With a session of an address, from the first record of a trace on.
-    pub(crate) fn begin(self, text: &[u8]) -> State {
+    pub(crate) fn begin(self, to: Stdout, text: &[u8]) -> State {
         let begun = replay_block::begin(given::address_of(text));
         let answer = begun.answer;
-        write_answer(answer);
+        write_answer(to, answer);
         let session = begun.session;
         self.with_session(session)
     }
@@ -56,7 +57,7 @@ impl State {
 
     // With the session that a call of the replay program begins, or as it was with what the program says: behind a blank stands how many words
     // the call has, and behind another its second word.
-    pub(crate) fn called(self, text: &[u8]) -> State {
+    pub(crate) fn called(self, to: Stdout, text: &[u8]) -> State {
         let end = find(text, at_most(text.len(), 1), text.len(), b' ');
         let numbers = read_numbers(&text[0..end], u32::MAX);
         let start = at_most(text.len(), end + 1);
@@ -65,11 +66,11 @@ impl State {
         let opening = beginning.opening;
         match opening {
             Opening::Begun => {
-                write(b"begun\n");
+                write(to, b"begun\n");
                 self.with_session(session)
             }
             Opening::Said(message) => {
-                show(message, self.room);
+                show(to, message, self.room);
                 self
             }
         }
@@ -110,17 +111,17 @@ impl State {
     }
 
     // With the meter after frames were put to it.
-    pub(crate) fn frames(self, text: &[u8]) -> State {
+    pub(crate) fn frames(self, to: Stdout, text: &[u8]) -> State {
         let session = self.session;
         let mut replay = session.state;
-        let meter = put(replay.meter, replay.energies, text, self.room);
+        let meter = put(to, replay.meter, replay.energies, text, self.room);
         replay.meter = meter;
         self.with_replay(replay)
     }
 
     // With a value outside its range.
-    pub(crate) fn broken(self, word: &[u8]) -> State {
+    pub(crate) fn broken(self, to: Stdout, word: &[u8]) -> State {
         let session = self.session;
-        self.with_replay(given::broken(session.state, word))
+        self.with_replay(given::broken(to, session.state, word))
     }
 }
