@@ -1,4 +1,6 @@
 // How the replay program begins: with a session of the address that it is given, or with what is said where it is given none.
+#![tactic(auto)]
+
 ghost use Rattle.std.specs.Prelude.{◌≡◌};
 ghost use Rattle.replay_begin.specs.Beginning.{address_given, opening_by, beginning};
 
