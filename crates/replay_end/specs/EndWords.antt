@@ -9,13 +9,13 @@ use Rattle.trace.specs.Records.{written}
 use Rattle.trace.specs.declared.Front.TheVariants as front
 use Rattle.replay.specs.ByHand.{HandTurn, ByHand, hand_start, frames_put_in, replies_given}
 use Rattle.replay_block.specs.Block.{begun}
-use Rattle.replay_block.specs.BlockCalls.{BlockCall, BlockCalls, OfBytes, kept_by, trace_of, kept_after, session_after}
-use Rattle.replay_block.specs.BlockWords.{stops_at, ends_at}
-use Rattle.replay_block.specs.Blocks.{ReplaysInBlocks, kept-last, blocks_replayed}
+use Rattle.replay_block.proofs.BlockCalls.{BlockCall, BlockCalls, OfBytes, kept_by, trace_of, kept_after, session_after}
+use Rattle.replay_block.proofs.BlockWords.{stops_at, ends_at}
+use Rattle.replay_block.proofs.Blocks.{ReplaysInBlocks, kept-last, blocks_replayed}
 use Rattle.replay_block.specs.declared.BlockAnswer.{BlockAnswer}
 use Rattle.replay_block.specs.declared.BlockAnswer.TheVariants.{Refused, Played, Stopped}
 use Rattle.replay_text.specs.Texts.{message_text}
-use Rattle.replay_text.specs.TextWords.{Line, message_says}
+use Rattle.replay_text.proofs.TextWords.{Line, message_says}
 use Rattle.replay_text.specs.declared.Message.TheVariants.{BadRecord, Replayed}
 use Rattle.replay_end.specs.End.{is_last, last_message}
 
