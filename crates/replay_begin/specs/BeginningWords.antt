@@ -7,13 +7,13 @@ use Rattle.std.proofs.Math.Bool.{and-eq-true_iff}
 use borrow.Author.Tests.{eqb-true, eqb-false, eq-eqb}
 use Rattle.laws.specs.TestLaws.{pick_cases}
 use Rattle.item_address.specs.Address.{Good, is_good}
-use Rattle.item_address.specs.AddressLaws.{good, is_good_lem}
-use Rattle.replay.specs.StepWords.{InRanges}
+use Rattle.item_address.proofs.AddressLaws.{good, is_good_lem}
+use Rattle.replay.proofs.StepWords.{InRanges}
 use Rattle.replay_address.specs.Digits.{spelled}
 use Rattle.replay_address.specs.Address.{address_read}
-use Rattle.replay_address.specs.AddressLaws.{TwelveDigits, Spells, address-reads}
+use Rattle.replay_address.proofs.AddressLaws.{TwelveDigits, Spells, address-reads}
 use Rattle.replay_block.specs.Block.{begun}
-use Rattle.replay_block.specs.BlockWords.{begin_words, begin_refused}
+use Rattle.replay_block.proofs.BlockWords.{begin_words, begin_refused}
 use Rattle.replay_text.specs.declared.Message.{Message}
 use Rattle.replay_text.specs.declared.Message.TheVariants.{Usage}
 use Rattle.replay_text.specs.declared.Reason.{Reason}
