@@ -149,12 +149,7 @@ fn built_as(built: Built) -> RequestBuilt
 }
 
 // The meter's answer to a frame, by `meter::Meter::answer`.
-pub fn call_answer(
-    meter: Meter,
-    energies: Energies,
-    bytes: &[u8],
-    out: &mut [u8],
-) -> MeterAnswer
+pub fn call_answer(meter: Meter, energies: Energies, bytes: &[u8], out: &mut [u8]) -> MeterAnswer
     ensures { outcome result out.new ≡ told meter_answer_of (answered bytes.now meter energies.forward energies.reverse out.old) }
 {
     answer_of(meter.answer(energies.forward_rows(), energies.reverse_rows(), bytes, out))
