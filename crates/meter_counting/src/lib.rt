@@ -62,7 +62,7 @@ fn rate_where(counts: bool, rate: u8) -> u8
 }
 
 // The readings of a direction with a pulse amount added where it counts there, else as they are.
-#[tactic(auto, using(crate::specs::CountingLaws::pulsed_where))]
+#[tactic(auto, using(crate::proofs::CountingLaws::pulsed_where))]
 fn pulsed_where(counts: bool, rows: Rows, amount: u32, rate: u8) -> Rows
     ensures { result ≡ pick counts (pulsed rows amount rate) rows }
 {
