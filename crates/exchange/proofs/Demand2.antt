@@ -24,7 +24,7 @@ use Rattle.exchange.proofs.Hearing.{Brings, DeliveredLast, delivered-last}
 use Rattle.exchange.specs.ExchangeTerms.{Typed, MeantFor, IsRead, EnoughMemory, ReadGives, Authorised, WriteSets, WriteFails, GetsSilence}
 use Rattle.exchange.proofs.Said.{ExchangeRefuses, exchange-refuses}
 use Rattle.exchange.proofs.RequestFrameLaws.{request-frame}
-use Rattle.exchange.proofs.Reads.{read_gives}
+use Rattle.exchange.proofs.ReadsAcross.{read_gives}
 use Rattle.exchange.proofs.WritesAcross.{write_sets, write_failed}
 use Rattle.exchange.proofs.Foreign.{gets_silence}
 

@@ -3,7 +3,7 @@ pub mod ExchangeLaws
 pub mod Foreign
 pub mod Hearing
 pub mod HearingLaws
-pub mod Reads
+pub mod ReadsAcross
 pub mod ReplyLaws
 pub mod RequestFrameLaws
 pub mod Said

@@ -32,7 +32,7 @@ use Rattle.exchange.specs.Exchange.{Memories, ExchangeOutcome, outcome_of, refus
 use Rattle.exchange.proofs.ExchangeLaws.{enough-memory, memory-enough}
 use Rattle.exchange.specs.ExchangeTerms.{Typed, MeantFor, IsRead, EnoughMemory, comes_to, Authorised}
 use Rattle.exchange.proofs.Foreign.{gets_silence}
-use Rattle.exchange.proofs.Reads.{read_gives}
+use Rattle.exchange.proofs.ReadsAcross.{read_gives}
 use Rattle.exchange.proofs.RequestFrameLaws.{address-six}
 use Rattle.exchange.proofs.WritesAcross.{write_sets, write_fails}
 use Rattle.exchange.specs.declared.ExchangeAnswer.{ExchangeAnswer}
