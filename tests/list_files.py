@@ -1,7 +1,7 @@
 #!/usr/bin/env python3
 """Runs the listing program on files, on a file as its standard input and on a pipe, and compares with list_model.py.
 
-    python3 tests/list_files.py             runs target/bin/list_frames, which `rt check list_frames` makes
+    python3 tests/list_files.py             runs crates/list_frames/out/list_frames, which `rt run` makes
     python3 tests/list_files.py PROGRAM     runs another
 
 Arguments of the program are names of files, which it lists one after the other; the end of each is a silence. One that
@@ -233,7 +233,7 @@ def run_all(runs):
 def main(program):
     """Makes the files, runs the program and says how many runs differ."""
     if not os.path.isfile(program):
-        sys.exit("there is no program %s; `rt check list_frames` makes target/bin/list_frames" % program)
+        sys.exit("there is no program %s; `rt run` in crates/list_frames makes out/list_frames there" % program)
     with tempfile.TemporaryDirectory() as folder:
         copy = os.path.join(folder, "list_frames")
         shutil.copyfile(program, copy)
@@ -252,4 +252,4 @@ def main(program):
 if __name__ == "__main__":
     if len(sys.argv) > 2 or sys.argv[1:] in (["--help"], ["-h"]):
         sys.exit(__doc__)
-    main(sys.argv[1] if len(sys.argv) == 2 else command.at_root("target/bin/list_frames"))
+    main(sys.argv[1] if len(sys.argv) == 2 else command.at_root("crates/list_frames/out/list_frames"))

@@ -1,7 +1,7 @@
 #!/usr/bin/env python3
 """Runs the replay program on traces in files and in pipes, and compares with replay_model.py.
 
-    python3 tests/replay_files.py             runs target/bin/replay_trace, which `rt check replay_trace` makes
+    python3 tests/replay_files.py             runs crates/replay_trace/out/replay_trace, which `rt run` makes
     python3 tests/replay_files.py PROGRAM     runs another
 
 The one argument of the program is an address, twelve digits, highest first; the trace is its standard input. It writes the
@@ -222,7 +222,7 @@ def run_calls(runs):
 def main(program):
     """Runs the program and says how many runs differ."""
     if not os.path.isfile(program):
-        sys.exit("there is no program %s; `rt check replay_trace` makes target/bin/replay_trace" % program)
+        sys.exit("there is no program %s; `rt run` in crates/replay_trace makes out/replay_trace there" % program)
     with tempfile.TemporaryDirectory() as folder:
         runs = Runs(os.path.abspath(program), folder)
         run_calls(runs)
@@ -235,4 +235,4 @@ def main(program):
 if __name__ == "__main__":
     if len(sys.argv) > 2 or sys.argv[1:] in (["--help"], ["-h"]):
         sys.exit(__doc__)
-    main(sys.argv[1] if len(sys.argv) == 2 else command.at_root("target/bin/replay_trace"))
+    main(sys.argv[1] if len(sys.argv) == 2 else command.at_root("crates/replay_trace/out/replay_trace"))
