@@ -8,7 +8,7 @@
 
 typedef uint8_t checksum_of(const uint8_t *bytes, size_t count);
 
-/* The proved one, from the archive that `rt staticlib call_checksum` writes. */
+/* The proved one, from the archive that `rt lib` makes of call_checksum_c. */
 checksum_of call_checksum;
 
 checksum_of plain_gcc, plain_clang, fours_gcc, fours_clang;

@@ -122,7 +122,7 @@ struct exchange_done {
                                            uint8_t *heard, size_t heard_len, uint8_t *reply, size_t reply_len, \
                                            uint8_t *value, size_t value_len);
 
-/* The proved calls, from the archives that `rt staticlib` writes of call_ends and call_exchange. */
+/* The proved calls, from the archives that `rt lib` makes of call_ends_c and call_exchange_c. */
 DECLARE_BY_VALUE(call)
 
 /* The calls in C, by gcc and by clang; those by words are by value too, and look at up to eight bytes as one number. */

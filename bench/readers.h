@@ -7,7 +7,7 @@
 #include <stddef.h>
 #include <stdint.h>
 
-/* The proved receiver, from the archive that `rt staticlib receive_line` writes. */
+/* The proved receiver, from the archive that `rt lib` makes of receive_line_c. */
 size_t receive_line(const uint8_t *input, size_t input_len, uint8_t *out, size_t out_len);
 
 /* The receiver in C that changes its state in place. */
