@@ -1,4 +1,4 @@
-// The checksum as a C function, so that the benchmark can count it by itself.
+// The checksum as a function for C, which `call_checksum_c` exports, so that the benchmark can count it by itself.
 #![tactic(auto)]
 
 ghost use Rattle.std.specs.Prelude.{◌≡◌};

@@ -1,4 +1,4 @@
-// Each end's calls as C functions: structs by value, enums and refusals as numbers. This is what the benchmark links.
+// Each end's calls as functions for C: structs by value, enums and refusals as numbers. `call_ends_c` exports them, for the benchmark.
 #![tactic(auto)]
 
 pub mod request;
@@ -30,7 +30,7 @@ const REFUSED: u8 = 2;
 
 // The meter after a frame, with a refusal, or 0 and the reply's length.
 #[repr(C)]
-#[derive(Drop)]
+#[derive(Clone, Copy)]
 pub struct MeterAnswer {
     pub meter: Meter,
     pub refusal: u8,
@@ -39,7 +39,7 @@ pub struct MeterAnswer {
 
 // The meter after its key was set, with a refusal, or 0.
 #[repr(C)]
-#[derive(Drop)]
+#[derive(Clone, Copy)]
 pub struct MeterSet {
     pub meter: Meter,
     pub refusal: u8,
@@ -48,7 +48,7 @@ pub struct MeterSet {
 // The meter and its readings after a pulse or a settlement, with a refusal, or 0. The readings stand first and the refusal behind them: where
 // the meter stands first, the readings are copied once more.
 #[repr(C)]
-#[derive(Drop)]
+#[derive(Clone, Copy)]
 pub struct MeterCounted {
     pub energies: Energies,
     pub refusal: u8,
@@ -57,7 +57,7 @@ pub struct MeterCounted {
 
 // A refusal, or 0 and the request's length.
 #[repr(C)]
-#[derive(Drop)]
+#[derive(Clone, Copy)]
 pub struct RequestBuilt {
     pub refusal: u8,
     pub length: usize,
@@ -65,7 +65,7 @@ pub struct RequestBuilt {
 
 // Which answer it is, and its number: the value's length, the error byte or the refusal.
 #[repr(C)]
-#[derive(Drop)]
+#[derive(Clone, Copy)]
 pub struct ReplyJudged {
     pub which: u8,
     pub number: usize,

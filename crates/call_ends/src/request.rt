@@ -8,7 +8,7 @@ use reader_judgement::Action;
 
 // A request; 11 reads data, 14 writes, and any other control reads the address.
 #[repr(C)]
-#[derive(Drop)]
+#[derive(Clone, Copy)]
 pub struct AskedRequest {
     pub control: u8,
     pub address: [u8; 6],

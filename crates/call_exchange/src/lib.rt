@@ -1,4 +1,4 @@
-// Both ends' exchange as a C function, beside the calls of each end: structs by value, enums and refusals as numbers. It is an archive
+// Both ends' exchange as a function for C, which `call_exchange_c` exports, beside the calls of each end: structs by value, enums and refusals as numbers. It is an archive
 // of its own, since a program that has both an exchange and a call of `answer` does not make that call a part of itself.
 #![tactic(auto)]
 
@@ -20,7 +20,7 @@ const NOT_SENT: u8 = 4;
 
 // The meter after an exchange, which answer it is with its number, and the lengths of the frame delivered and of the reply.
 #[repr(C)]
-#[derive(Drop)]
+#[derive(Clone, Copy)]
 pub struct ExchangeDone {
     pub meter: Meter,
     pub which: u8,

@@ -1,5 +1,5 @@
 // Both ends and the line together: a request is built, heard byte by byte by a fresh receiver and handed to the meter, and the
-// reply is judged. Demand 2 of the letter is `demand_2` in specs/Demand2.antt; document 01's cases A to I are one table in the
+// reply is judged. Demand 2 of the letter is `demand_2` in proofs/Demand2.antt; document 01's cases A to I are one table in the
 // crate `exchange_cases`.
 #![tactic(auto)]
 
@@ -17,7 +17,7 @@ use reader::{Built, REQUEST_MEMORY, Request, VALUE_MEMORY};
 use reader_judgement::Judgement;
 
 // The answer to an exchange.
-#[derive(Drop)]
+#[derive(Clone, Copy)]
 pub enum ExchangeAnswer {
     // A refusal, by document 01's number: nothing was sent, all as before.
     Refused(u8),
@@ -28,7 +28,7 @@ pub enum ExchangeAnswer {
 }
 
 // The meter after an exchange, with the answer.
-#[derive(Drop)]
+#[derive(Clone, Copy)]
 pub struct Exchanged {
     pub meter: Meter,
     pub answer: ExchangeAnswer,

@@ -1,2 +1,2 @@
-// Cases A to I of document 01, "Frames to prove": one table with one proof over it, in specs/Cases.antt. No code.
+// Cases A to I of document 01, "Frames to prove": one table with one proof over it, in proofs/Cases.antt. No code.
 #![tactic(auto)]

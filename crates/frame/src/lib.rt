@@ -15,7 +15,7 @@ use std::num::wrapping_add_u8;
 pub const MOST_FRAME: usize = 212;
 
 // What a slice of bytes begins with.
-#[derive(Drop)]
+#[derive(Clone, Copy)]
 pub enum Recognised {
     // A whole frame of so many bytes.
     Whole(usize),

@@ -10,7 +10,7 @@ ghost use Rattle.frame_parts.specs.Parts.{address_field, data_unmasked};
 ghost use Rattle.frame_parts.specs.Writing.{writing, writing_in_place};
 
 // The answer to the writing of a frame; only `Length` leaves bytes in the output buffer.
-#[derive(Drop)]
+#[derive(Clone, Copy)]
 pub enum Written {
     // The frame's length.
     Length(usize),

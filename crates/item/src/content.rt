@@ -7,7 +7,7 @@ use item_decimal::{Scan, digits_of, first_bad};
 use item_range::is_within;
 
 // Whether a value may be written to an item, and if not, why.
-#[derive(Drop)]
+#[derive(Clone, Copy)]
 pub enum Content {
     Allowed,
     // The item is only read.
@@ -20,7 +20,7 @@ pub enum Content {
 }
 
 // The least and the most of a pair of digits.
-#[derive(Drop)]
+#[derive(Clone, Copy)]
 pub(crate) struct Bounds {
     pub least: usize,
     pub most: usize,

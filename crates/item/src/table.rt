@@ -37,7 +37,7 @@ pub struct Item {
 }
 
 // What the table has for an identifier.
-#[derive(Drop)]
+#[derive(Clone, Copy)]
 pub enum Lookup {
     Listed(Item),
     NotListed,

@@ -27,7 +27,7 @@ pub enum Command {
 }
 
 // Whom a command is for.
-#[derive(Drop)]
+#[derive(Clone, Copy)]
 pub enum Addressee {
     // The meter whose address stands in the frame.
     Own,
@@ -38,7 +38,7 @@ pub enum Addressee {
 }
 
 // What a control code asks for.
-#[derive(Drop)]
+#[derive(Clone, Copy)]
 pub enum Asked {
     Known(Command),
     Unknown,

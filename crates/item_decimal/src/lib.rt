@@ -6,7 +6,7 @@ ghost use Rattle.laws.specs.Memory.{outcome};
 ghost use Rattle.item_decimal.specs.Decimal.{is_decimal, first_bad, all_decimal, digits, packing, unpacked, unpacking};
 
 // Where bytes are no digits.
-#[derive(Drop)]
+#[derive(Clone, Copy)]
 pub enum Scan {
     // Every half byte is 0 to 9.
     AllDecimal,
@@ -15,7 +15,7 @@ pub enum Scan {
 }
 
 // The answer to the packing of a number; only `Done` changes the memory.
-#[derive(Drop)]
+#[derive(Clone, Copy)]
 pub enum Packed {
     Done,
     // The number has more digits than the memory takes.
@@ -23,7 +23,7 @@ pub enum Packed {
 }
 
 // The answer to the unpacking of bytes.
-#[derive(Drop)]
+#[derive(Clone, Copy)]
 pub enum Unpacked {
     Number(u64),
     // More than nine bytes, whose number might not fit.

@@ -13,7 +13,7 @@ use line_block::BlockAnswer;
 use line_verdict::MOST_KEPT;
 
 // How many bytes are kept, and how many bytes of how many frames were delivered.
-#[derive(Drop)]
+#[derive(Clone, Copy)]
 pub(crate) struct Rescanned {
     pub count: usize,
     pub bytes: usize,

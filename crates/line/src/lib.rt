@@ -1,5 +1,5 @@
 // The receiver of the line: document 01, "Reading of the line". It takes one symbol a call, a byte or a silence, and delivers
-// the frames that became certain with it. Demand 3 of the letter is `demand_3` in specs/Demand3.antt.
+// the frames that became certain with it. Demand 3 of the letter is `demand_3` in proofs/Demand3.antt.
 #![tactic(auto)]
 
 mod drain;

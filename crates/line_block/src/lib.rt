@@ -11,7 +11,7 @@ ghost use Rattle.line_block.specs.Block.{block_read};
 use frame::refusal::SHORT_MEMORY;
 
 // The answer to the reading of a block.
-#[derive(Drop)]
+#[derive(Clone, Copy)]
 pub enum BlockAnswer {
     // A refusal, by document 01's number: nothing is delivered, and nothing changed.
     Refused(u8),

@@ -11,7 +11,7 @@ use frame::MOST_FRAME;
 pub const MOST_KEPT: usize = 211;
 
 // The verdict on the kept bytes and the byte after them.
-#[derive(Drop)]
+#[derive(Clone, Copy)]
 pub enum Verdict {
     // The kept bytes are not a proper beginning of a frame.
     Bad,

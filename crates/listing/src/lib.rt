@@ -11,7 +11,7 @@ ghost use Rattle.laws.specs.Memory.{outcome, over};
 ghost use Rattle.listing.specs.Text.{Spans, digit, hex_of, hex_all, head_of, tail_of, text_of, text_length, listing};
 
 // The answer to the listing of a frame; only `Length` leaves bytes in the output buffer.
-#[derive(Drop)]
+#[derive(Clone, Copy)]
 pub enum Listed {
     // The text's length, its newline among it.
     Length(usize),

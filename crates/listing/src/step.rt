@@ -1,6 +1,6 @@
 // A step of the listing of a recorded line: document 01, "The listing program". It lists the frames that became certain with the
 // bytes read, and takes the end of the input as a silence. What every list of steps from a buffer that keeps nothing writes is
-// `blocks-listed` in specs/ListedBlocks.antt.
+// `blocks-listed` in proofs/ListedBlocks.antt.
 ghost use Rattle.std.specs.Prelude.{◌≡◌, ◌*◌, ◌≤◌, length};
 ghost use Rattle.laws.specs.Memory.{outcome, over};
 ghost use Rattle.frame.specs.EndToEnd.{EndToEnd, cut};
@@ -13,7 +13,7 @@ use frame::refusal::SHORT_MEMORY;
 use recording::StepAnswer;
 
 // The answer to a step of the listing.
-#[derive(Drop)]
+#[derive(Clone, Copy)]
 pub enum StepListed {
     // A refusal, by document 01's number: nothing is listed, and nothing changed.
     Refused(u8),

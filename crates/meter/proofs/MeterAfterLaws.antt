@@ -10,7 +10,7 @@ use Rattle.item.specs.declared.table.Lookup.TheVariants.{Listed, NotListed}
 use Rattle.energy.specs.Energies.{Rows}
 use Rattle.meter.specs.Meter.{MeterSized, with_registers}
 use Rattle.meter_holding.specs.Holding.{location_of}
-use Rattle.meter_holding.specs.HoldingLaws.{registers-decimal}
+use Rattle.meter_holding.proofs.HoldingLaws.{registers-decimal}
 use Rattle.meter.proofs.MeterLaws.{value-length, value-sized, untouched-keeps, untouched-sized}
 use Rattle.laws.specs.PartLaws.{part_length, put-length}
 use Rattle.meter.proofs.Ranges.{InRanges, ranges-again, untouched-ranges}

@@ -5,7 +5,7 @@ use Rattle.item.specs.declared.table.Item.{Item}
 use Rattle.item.specs.declared.table.Lookup.TheVariants.{Listed}
 use Rattle.energy.specs.Energies.{Rows}
 use Rattle.meter_holding.specs.Holding.{location_of}
-use Rattle.meter_holding.specs.HoldingLaws as holding
+use Rattle.meter_holding.proofs.HoldingLaws as holding
 use Rattle.meter.specs.Meter.{MeterSized, AllKept, untouched, value_held, with_value}
 use Rattle.meter.specs.declared.Meter.{Meter}
 

@@ -37,7 +37,7 @@ pub struct Meter {
 
 // A fresh meter with its readings. With a refusal there is no meter: what comes back has the bad address, and every
 // operation refuses it with 16.
-#[derive(Drop)]
+#[derive(Clone, Copy)]
 pub struct Created {
     pub meter: Meter,
     pub energies: Energies,
@@ -45,7 +45,7 @@ pub struct Created {
 }
 
 // The meter after its key was set.
-#[derive(Drop)]
+#[derive(Clone, Copy)]
 pub struct KeySet {
     pub meter: Meter,
     pub answer: HostAnswer,
@@ -53,7 +53,7 @@ pub struct KeySet {
 
 // The meter and its readings after a pulse or a settlement. The answer stands between the two: side by side they are copied as one, and the
 // readings once more.
-#[derive(Drop)]
+#[derive(Clone, Copy)]
 pub struct Counted {
     pub meter: Meter,
     pub answer: HostAnswer,
@@ -61,7 +61,7 @@ pub struct Counted {
 }
 
 // The answer to a frame.
-#[derive(Drop)]
+#[derive(Clone, Copy)]
 pub enum FrameAnswer {
     // The length of the reply that stands at the front of the output buffer.
     Replied(usize),
@@ -70,7 +70,7 @@ pub enum FrameAnswer {
 }
 
 // The meter after a frame, with the answer.
-#[derive(Drop)]
+#[derive(Clone, Copy)]
 pub struct Answered {
     pub meter: Meter,
     pub answer: FrameAnswer,

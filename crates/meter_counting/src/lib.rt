@@ -13,7 +13,7 @@ use energy::{Energies, Rows};
 use frame::refusal::{BAD_ARGUMENT, OUT_OF_RANGE};
 
 // The answer to a call of the host.
-#[derive(Drop)]
+#[derive(Clone, Copy)]
 pub enum HostAnswer {
     Done,
     // A refusal, by document 01's number: all as before.
@@ -21,7 +21,7 @@ pub enum HostAnswer {
 }
 
 // The readings after a pulse or a settlement.
-#[derive(Drop)]
+#[derive(Clone, Copy)]
 pub struct CountedReadings {
     pub energies: Energies,
     pub answer: HostAnswer,

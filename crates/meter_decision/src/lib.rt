@@ -13,7 +13,7 @@ use commands::{change_password, read_address, read_data, write_address, write_da
 use item_command::Command;
 
 // What is answered, or carried out.
-#[derive(Drop)]
+#[derive(Clone, Copy)]
 pub enum Decision {
     // Silence, with the refusal's number.
     Silent(u8),

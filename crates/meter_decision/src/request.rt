@@ -7,28 +7,28 @@ use item_identifier::identifier_of;
 use item_range::is_within;
 
 // A check that parses nothing.
-#[derive(Drop)]
+#[derive(Clone, Copy)]
 pub(crate) enum Tested {
     Holds,
     Fails,
 }
 
 // The data of 11, where their length is right.
-#[derive(Drop)]
+#[derive(Clone, Copy)]
 pub(crate) enum ReadRequest {
     Identifier(u32),
     WrongLength,
 }
 
 // The data of 14 before the value, where their length is right.
-#[derive(Drop)]
+#[derive(Clone, Copy)]
 pub(crate) enum WriteRequest {
     Parsed { identifier: u32, level: u8 },
     WrongLength,
 }
 
 // The data of 18, where their length is right.
-#[derive(Drop)]
+#[derive(Clone, Copy)]
 pub(crate) enum PasswordRequest {
     Parsed { identifier: u32, old: u8, new: u8 },
     WrongLength,

@@ -1,11 +1,12 @@
 -- Document 01, "What the meter holds": the value of each item, by a meter's address, registers and readings, and the ranges of these.
-use Rattle.std.specs.Prelude.{ℕ, ◌+◌, ◌*◌, List, [], ◌∷◌, Bool, ◌&&◌, length, leb, eqb}
+use Rattle.std.specs.Prelude.{ℕ, ◌+◌, ◌*◌, List, [], ◌∷◌, Bool, ◌&&◌, length, leb, eqb, ◌≡◌, ◌≤◌}
 use Rattle.laws.specs.Memory.{Outcome, outcome, over}
 use Rattle.laws.specs.Test.{pick}
 use Rattle.laws.specs.Part.{part, with_part}
 use Rattle.item_address.specs.Address.{is_good}
 use Rattle.item_decimal.specs.Decimal.{all_decimal}
 use Rattle.item.specs.Table.{item_of, has_length}
+use Rattle.item.proofs.TableLaws.{Within}
 use Rattle.item.specs.declared.table.Kind.{Kind}
 use Rattle.item.specs.declared.table.Kind.TheVariants.{Energy, Date, Time, DemandPeriod, Slip, Address, MeterNumber, SettlementDay}
 use Rattle.item.specs.declared.table.Item.{Item}
@@ -84,3 +85,9 @@ registers_of (Listed item) value registers = registers_with (location_of item.ki
 unfoldable pub registers_after : ℕ → List ℕ → List ℕ → List ℕ
 registers_after identifier value registers =
     pick (has_length (item_of identifier) (length value)) (registers_of (item_of identifier) value registers) registers
+
+-- So many bytes fit at a location.
+abbrev pub FitsAt : ℕ → Location → Type 0
+FitsAt n (Readings direction rate rates row rows) = Within direction rate rates row rows × (n ≡ 4 * rates * rows)
+FitsAt n OwnAddress = n ≡ 6
+FitsAt n (Register at) = at + n ≤ 21

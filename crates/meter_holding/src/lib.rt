@@ -9,7 +9,7 @@ ghost use Rattle.std.specs.Prelude.{◌≡◌, ◌+◌, ◌≤◌, length};
 ghost use Rattle.laws.specs.Memory.{outcome, over};
 ghost use Rattle.laws.specs.Part.{with_part};
 ghost use Rattle.meter_holding.specs.Holding.{location_of, value_held, within_ranges, fresh_registers, value_written, registers_after};
-ghost use Rattle.meter_holding.specs.HoldingLaws.{FitsAt};
+ghost use Rattle.meter_holding.specs.Holding.{FitsAt};
 
 use columns::write_columns;
 use energy::{Rows, rows};
@@ -25,7 +25,7 @@ const FRESH_REGISTERS: [u8; 21] = [
 ];
 
 // The answer to the writing of a value; only `Length` leaves bytes in the output buffer.
-#[derive(Drop)]
+#[derive(Clone, Copy)]
 pub enum Held {
     // The value's length.
     Length(usize),

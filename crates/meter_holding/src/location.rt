@@ -5,7 +5,7 @@ ghost use Rattle.meter_holding.specs.Holding.{location_of};
 use item::table::Kind;
 
 // Among the readings, as the meter's own address, or as a register that begins at a place of `registers`.
-#[derive(Drop)]
+#[derive(Clone, Copy)]
 pub enum Location {
     Readings {
         direction: u8,

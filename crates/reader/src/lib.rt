@@ -38,7 +38,7 @@ pub struct Request {
 }
 
 // The answer to the building of a request.
-#[derive(Drop)]
+#[derive(Clone, Copy)]
 pub enum Built {
     // The length of the request that stands at the front of the output buffer, wake-up bytes included.
     Length(usize),

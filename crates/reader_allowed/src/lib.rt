@@ -14,7 +14,7 @@ use reader_judgement::Action;
 pub const MOST_VALUE: usize = 38;
 
 // Why a request is not allowed.
-#[derive(Drop)]
+#[derive(Clone, Copy)]
 pub enum Cause {
     Address,
     NotListed,
@@ -26,7 +26,7 @@ pub enum Cause {
 }
 
 // Whether a request is allowed, and if not, why.
-#[derive(Drop)]
+#[derive(Clone, Copy)]
 pub enum Admission {
     Allowed,
     Refused(Cause),

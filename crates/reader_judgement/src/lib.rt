@@ -20,7 +20,7 @@ pub enum Action {
 }
 
 // The answer to the judging of a reply.
-#[derive(Drop)]
+#[derive(Clone, Copy)]
 pub enum Judgement {
     // The length of the value: 0 for a write that was accepted.
     Value(usize),

@@ -1,2 +1,2 @@
 pub mod WholeLine
-pub mod WholeLineLaws
+pub mod Receiving

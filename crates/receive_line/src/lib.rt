@@ -1,19 +1,19 @@
-// A whole recorded line, its end taken as a silence, as one C function: through the receiver's calls, and straight from the
-// slice. Both are held to one definition, so that they answer alike on every line. This is what the benchmark links.
+// A whole recorded line, its end taken as a silence, as one function for C: through the receiver's calls, and straight from the
+// slice. Both are held to one definition, so that they answer alike on every line. `receive_line_c` exports them, for the benchmark.
 #![tactic(auto)]
 
 ghost use Rattle.std.specs.Prelude.{◌≡◌, ◌++◌, map, ◌+◌, ◌≤◌, length, take};
 ghost use Rattle.laws.specs.Memory.{outcome, over};
 ghost use Rattle.line_terms.specs.Line.{byte};
 ghost use Rattle.receive_line.specs.WholeLine.{received_line};
-ghost use Rattle.receive_line.specs.WholeLineLaws.{Receiving};
+ghost use Rattle.receive_line.specs.Receiving.{Receiving};
 
 use frame::MOST_FRAME;
 use line::{Answer, Received, Receiver};
 use line_block::BlockAnswer;
 
 // A receiver that has been fed, and how many bytes the frames have that it delivered.
-#[derive(Drop)]
+#[derive(Clone, Copy)]
 struct Fed {
     receiver: Receiver,
     at: usize,

@@ -1,7 +1,7 @@
 // A recorded line read in blocks, without a receiver: document 01, "Reading of the line". A step reads the bytes that a host has
 // put behind those kept from the step before, delivers the frames that became certain with them, and keeps the unfinished rest
 // at the front of the buffer. What every list of steps from a buffer that keeps nothing delivers and keeps is `blocks_due` in
-// specs/Blocks.antt.
+// proofs/Blocks.antt.
 #![tactic(auto)]
 
 ghost use Rattle.std.specs.Prelude.{◌≡◌, ◌≤◌, length};
@@ -13,7 +13,7 @@ use frame::refusal::SHORT_MEMORY;
 use line_block::BlockAnswer;
 
 // The answer to a step.
-#[derive(Drop)]
+#[derive(Clone, Copy)]
 pub enum StepAnswer {
     // A refusal, by document 01's number: nothing is delivered, and nothing changed.
     Refused(u8),

@@ -1,6 +1,6 @@
 // The replay of a recorded line: document 02, W1. A trace is played record by record into a fresh receiver and a fresh meter of an address;
 // each frame that the receiver delivers is put to the meter, and each reply is listed. That the replies and the meter at the end are those of
-// the calls made by hand is `replayed_by_hand` in specs/Replayed.antt.
+// the calls made by hand is `replayed_by_hand` in proofs/Replayed.antt.
 #![tactic(auto)]
 
 pub mod host;
@@ -30,7 +30,7 @@ pub struct ReplayState {
 }
 
 // The start of a replay, with the place of the first record. With a refusal there is no meter: every step then refuses with 16.
-#[derive(Drop)]
+#[derive(Clone, Copy)]
 pub struct Started {
     pub state: ReplayState,
     pub at: usize,
@@ -38,7 +38,7 @@ pub struct Started {
 }
 
 // The answer to a step.
-#[derive(Drop)]
+#[derive(Clone, Copy)]
 pub enum StepAnswer {
     // The place is at or past the end of the trace; nothing changed.
     Done,
@@ -58,7 +58,7 @@ pub enum StepAnswer {
 }
 
 // The state after a step, with the step's answer.
-#[derive(Drop)]
+#[derive(Clone, Copy)]
 pub struct Stepped {
     pub state: ReplayState,
     pub answer: StepAnswer,

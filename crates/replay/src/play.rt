@@ -16,7 +16,7 @@ use replay_frames::{PutAnswer, put_frames};
 use trace::TraceRecord;
 
 // The state after a record, and the bytes and the number of the lines of its replies.
-#[derive(Drop)]
+#[derive(Clone, Copy)]
 pub(crate) struct Played {
     pub state: ReplayState,
     pub text: usize,

@@ -7,7 +7,7 @@ ghost use Rattle.replay_address.specs.Digits.{is_digit};
 ghost use Rattle.replay_address.specs.Address.{pair_of, no_address, address_read};
 
 // An address read from a text.
-#[derive(Drop)]
+#[derive(Clone, Copy)]
 pub struct ReadAddress {
     // Whether the text is twelve digits.
     pub found: bool,

@@ -10,7 +10,7 @@ use replay_block::Session;
 use replay_text::{Message, Reason};
 
 // Whether a session begins.
-#[derive(Drop)]
+#[derive(Clone, Copy)]
 pub enum Opening {
     Begun,
     // None does: this is said.
@@ -18,7 +18,7 @@ pub enum Opening {
 }
 
 // The beginning of the program, with the session; where none begins, one of which every block is refused with 16.
-#[derive(Drop)]
+#[derive(Clone, Copy)]
 pub struct Beginning {
     pub session: Session,
     pub opening: Opening,

@@ -5,7 +5,7 @@ ghost use Rattle.replay_block.specs.Hear.{stands_at, NoneStands, is_quiet, CanHe
 use line::{Answer, Received, Receiver};
 
 // What was heard: what the last call of the receiver returned, the place behind the last record heard, and how many records were heard.
-#[derive(Drop)]
+#[derive(Clone, Copy)]
 pub(crate) struct Heard {
     pub received: Received,
     pub at: usize,

@@ -31,7 +31,7 @@ pub struct Session {
 }
 
 // A session that begins, with the answer: 8 for an address that is not good, and then every block is refused with 16.
-#[derive(Drop)]
+#[derive(Clone, Copy)]
 pub struct Begun {
     pub session: Session,
     pub answer: HostAnswer,
@@ -51,7 +51,7 @@ pub enum BlockAnswer {
 }
 
 // The session after a block, with the answer.
-#[derive(Drop)]
+#[derive(Clone, Copy)]
 pub struct BlockPlayed {
     pub session: Session,
     pub answer: BlockAnswer,

@@ -17,7 +17,7 @@ use meter::{FrameAnswer, Meter};
 pub const TEXT_OF_A_FRAME_BYTE: usize = 35;
 
 // The answer to frames put to a meter.
-#[derive(Drop)]
+#[derive(Clone, Copy)]
 pub enum PutAnswer {
     // A refusal, by document 01's number: no frame was put, and nothing changed.
     Refused(u8),
@@ -26,14 +26,14 @@ pub enum PutAnswer {
 }
 
 // The meter after the frames, with the answer.
-#[derive(Drop)]
+#[derive(Clone, Copy)]
 pub struct FramesPut {
     pub meter: Meter,
     pub answer: PutAnswer,
 }
 
 // The meter after one frame, and the bytes and the number of the lines written for it.
-#[derive(Drop)]
+#[derive(Clone, Copy)]
 struct OnePut {
     meter: Meter,
     text: usize,

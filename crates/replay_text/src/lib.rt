@@ -12,7 +12,7 @@ use frame::refusal::{BAD_RECORD, CUT_OFF};
 use put::{put, put_labelled};
 
 // The answer to the writing of a message; only `Length` leaves bytes in the output buffer.
-#[derive(Drop)]
+#[derive(Clone, Copy)]
 pub enum Written {
     // The text's length, its newlines among it.
     Length(usize),
@@ -21,7 +21,7 @@ pub enum Written {
 }
 
 // Why it is said how the program is called.
-#[derive(Drop)]
+#[derive(Clone, Copy)]
 pub enum Reason {
     // It was asked.
     Asked,
@@ -32,7 +32,7 @@ pub enum Reason {
 }
 
 // What the program says.
-#[derive(Drop)]
+#[derive(Clone, Copy)]
 pub enum Message {
     // A record, or a block, is refused with this number; the record that is not played begins at this place of the whole trace.
     BadRecord {

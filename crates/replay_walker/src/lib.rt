@@ -1,6 +1,6 @@
 // The walker of a replay: document 02, W1. It holds the lent trace and its place in it; receiver, meter and readings travel beside it as one
 // value. Its functions take it apart, and `replay::step_at` does the work. A program holds no struct with a reference in it, and calls `walk_from`.
-// That the replies and the meter at the end are those of the calls made by hand is `walked_by_hand` in specs/Walked.antt.
+// That the replies and the meter at the end are those of the calls made by hand is `walked_by_hand` in proofs/Walked.antt.
 #![tactic(auto)]
 
 ghost use Rattle.std.specs.Prelude.{◌≡◌};
@@ -11,7 +11,7 @@ ghost use Rattle.replay_walker.specs.Walker.{begun, moved_to};
 use replay::{ReplayState, Stepped, step_at};
 
 // The lent trace, and the place in it where the next record begins.
-#[derive(Drop)]
+#[derive(Clone, Copy)]
 pub struct Walker<'a> {
     pub trace: &'a [u8],
     pub at: usize,

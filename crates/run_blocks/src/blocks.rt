@@ -6,7 +6,7 @@ use recording::StepAnswer;
 use run_text::heard::Gathered;
 
 // What the steps so far leave: how many bytes are kept at the front of the buffer, and what is gathered.
-#[derive(Drop)]
+#[derive(Clone, Copy)]
 struct Progress {
     kept: usize,
     gathered: Gathered,

@@ -3,7 +3,7 @@ use run_script_calls::place_among;
 use run_text::read::{Numbers, read_numbers};
 
 // Which call a line asks for.
-#[derive(Drop)]
+#[derive(Clone, Copy)]
 pub(crate) enum Verb {
     Start,
     Trace,
@@ -19,7 +19,7 @@ pub(crate) enum Verb {
 }
 
 // A call with its numbers.
-#[derive(Drop)]
+#[derive(Clone, Copy)]
 pub(crate) struct Call {
     pub verb: Verb,
     pub numbers: Numbers,

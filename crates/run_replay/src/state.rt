@@ -10,7 +10,7 @@ use std::io::Stdout;
 
 // The replay, the place of its next step, the size of the output buffer for a step, and how many bytes the trace has at the front of a
 // buffer beside this.
-#[derive(Drop)]
+#[derive(Clone, Copy)]
 pub(crate) struct State {
     pub replay: ReplayState,
     pub place: usize,

@@ -71,7 +71,7 @@ fn text_of(answer: &StepAnswer) -> usize {
 }
 
 // What a step leaves: the state after it, and whether more steps are to come.
-#[derive(Drop)]
+#[derive(Clone, Copy)]
 struct Made {
     state: State,
     more: bool,

@@ -51,7 +51,7 @@ fn write_end(to: Stdout, answer: BlockAnswer, read: usize, session: Session) {
 
 // What an answer says: how many bytes of text there are, how many were moved to the front of the buffer, and how many are kept there: only a block
 // that is played changes that.
-#[derive(Drop)]
+#[derive(Clone, Copy)]
 struct Said {
     text: usize,
     moved: usize,

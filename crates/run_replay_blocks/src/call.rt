@@ -2,7 +2,7 @@
 use run_script_calls::place_among;
 
 // A call that changes what stands between two lines.
-#[derive(Drop)]
+#[derive(Clone, Copy)]
 pub(crate) enum Verb {
     Begin,
     Called,
@@ -17,7 +17,7 @@ pub(crate) enum Verb {
 }
 
 // A call that changes nothing.
-#[derive(Drop)]
+#[derive(Clone, Copy)]
 pub(crate) enum Shown {
     State,
     Reading,

@@ -12,7 +12,7 @@ use std::io::Stdout;
 
 // The meter, its readings, the size of the output buffer for a frame, the reader's request, and the sizes of an exchange's output
 // buffers.
-#[derive(Drop)]
+#[derive(Clone, Copy)]
 pub struct State {
     meter: Meter,
     energies: Energies,

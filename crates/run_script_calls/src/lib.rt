@@ -5,7 +5,7 @@ use run_text::read::{BytesRead, Numbers, read_bytes, read_numbers};
 use slice_bytes::find;
 
 // Which call a line asks for.
-#[derive(Drop)]
+#[derive(Clone, Copy)]
 pub enum Verb {
     Meter,
     Address,
@@ -28,7 +28,7 @@ pub enum Verb {
 }
 
 // A call with its numbers, and how many bytes of it stand at the front of a buffer beside this.
-#[derive(Drop)]
+#[derive(Clone, Copy)]
 pub struct Call {
     pub verb: Verb,
     pub numbers: Numbers,

@@ -9,7 +9,7 @@ pub fn sum(a: usize, b: usize) -> usize {
 }
 
 // How many comparisons came out the same, and how many did not.
-#[derive(Drop)]
+#[derive(Clone, Copy)]
 pub struct Tally {
     pub same: usize,
     pub differ: usize,

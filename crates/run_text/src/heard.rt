@@ -54,7 +54,7 @@ pub fn same(first: Gathered, first_bytes: &[u8], second: Gathered, second_bytes:
 }
 
 // The receiver and what its calls have gathered.
-#[derive(Drop)]
+#[derive(Clone, Copy)]
 struct Heard {
     receiver: Receiver,
     gathered: Gathered,

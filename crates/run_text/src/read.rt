@@ -21,7 +21,7 @@ pub fn read_input(mut from: Stdin, text: &mut [u8]) -> usize
 }
 
 // What three characters write, of which the first is a blank: a byte in hexadecimal, or -- for a silence.
-#[derive(Drop)]
+#[derive(Clone, Copy)]
 pub(crate) enum Symbol {
     Byte(u8),
     Silence,
@@ -37,14 +37,14 @@ pub fn is_comment(line: &[u8]) -> bool {
 }
 
 // How many bytes a text has, or that it has something else.
-#[derive(Drop)]
+#[derive(Clone, Copy)]
 pub enum BytesRead {
     Count(usize),
     Wrong,
 }
 
 // How many numbers a text has, and the last four of them: the last is `d`. No text has the largest number of them.
-#[derive(Drop)]
+#[derive(Clone, Copy)]
 pub struct Numbers {
     pub count: usize,
     pub a: u32,

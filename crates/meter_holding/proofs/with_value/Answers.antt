@@ -1,6 +1,7 @@
 -- A listed item's bytes fit at its location, and the value is as long as the item.
 use Rattle.std.proofs.Common.{sym, arith}
-use Rattle.meter_holding.specs.HoldingLaws.{FitsAt, listed_fits_at}
+use Rattle.meter_holding.specs.Holding.{FitsAt}
+use Rattle.meter_holding.proofs.HoldingLaws.{listed_fits_at}
 use Rattle.meter_holding.specs.declared.location.Location.TheVariants.{Register}
 use Rattle.meter_holding.proofs.with_value.Goals as goal
 

@@ -1,6 +1,6 @@
 -- A listed item's bytes fit at its location.
 use Rattle.std.proofs.Common.{sym}
-use Rattle.meter_holding.specs.HoldingLaws.{listed_fits_at}
+use Rattle.meter_holding.proofs.HoldingLaws.{listed_fits_at}
 use Rattle.meter_holding.proofs.write_value.Goals as goal
 
 pub write_held-requires-clause-fits_at : goal.write_held-requires-clause-fits_at

@@ -1,5 +1,5 @@
 -- Either answer to the block, as one number, is what the whole line comes to.
-use Rattle.receive_line.specs.WholeLineLaws.{line_read}
+use Rattle.receive_line.proofs.WholeLineLaws.{line_read}
 use Rattle.receive_line.proofs.read_line.Goals as goal
 
 pub returns-in-Refused : goal.returns-in-Refused

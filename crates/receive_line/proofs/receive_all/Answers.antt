@@ -1,6 +1,6 @@
 -- A call has memory enough, so it is never refused, and what it delivers fits, since the frames found have no more bytes than were passed.
 use Rattle.std.proofs.Common.{◌∙◌, refl, rules}
-use Rattle.receive_line.specs.WholeLineLaws.{turning_start, turn-refused, turn-within, turn-fits, turning_more}
+use Rattle.receive_line.proofs.WholeLineLaws.{turning_start, turn-refused, turn-within, turn-fits, turning_more}
 use Rattle.receive_line.proofs.receive_all.Goals as goal
 use Rattle.receive_line.proofs.receive_all.Goals.{in-Refused, in-Delivered}
 

@@ -1,6 +1,6 @@
 -- Before each turn the bytes passed are heard and what they delivered is gathered. The measure is what is left of the input.
 use Rattle.std.proofs.Common.{◌-◌, length}
-use Rattle.receive_line.specs.WholeLineLaws.{Turning}
+use Rattle.receive_line.proofs.WholeLineLaws.{Turning}
 use Rattle.receive_line.proofs.receive_all.Given as goal
 
 abbrev pub invariant-loop-i : goal.invariant-loop-i

@@ -2,7 +2,7 @@
 -- delivers is gathered behind the rest.
 use Rattle.std.proofs.Common.{refl, replicate, arith}
 use Rattle.line_terms.specs.Line.{silence}
-use Rattle.receive_line.specs.WholeLineLaws.{never-refused, end-within, end_fits, line-received, too_short}
+use Rattle.receive_line.proofs.WholeLineLaws.{never-refused, end-within, end_fits, line-received, too_short}
 use Rattle.receive_line.proofs.receive_line.Goals as goal
 
 pub returns-then-out-input : goal.returns-then-out-input

@@ -19,7 +19,7 @@ use Rattle.item_identifier.specs.Identifier.{identifier_of}
 use Rattle.item_command.specs.declared.Command.TheVariants.{ReadData}
 use Rattle.meter_decision.specs.Request.{item_asked}
 use Rattle.meter_decision.specs.Decision.{is_listed, checks_of}
-use Rattle.meter_holding.specs.HoldingLaws.{value_written_lem}
+use Rattle.meter_holding.proofs.HoldingLaws.{value_written_lem}
 use Rattle.meter_holding.specs.declared.Held.{Held}
 use Rattle.meter_holding.specs.declared.Held.TheVariants.{Length}
 use Rattle.meter.specs.Meter.{MeterSized, value_held}

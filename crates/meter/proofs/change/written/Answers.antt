@@ -11,7 +11,7 @@ use Rattle.item.specs.declared.table.Lookup.{Lookup}
 use Rattle.meter_decision.specs.Request.{item_asked, operator_of, written_value}
 use Rattle.meter_decision.proofs.DecisionLaws.{WriteHolds, write_holds}
 use Rattle.meter_holding.specs.Holding.{location_of, registers_with, registers_after}
-use Rattle.meter_holding.specs.HoldingLaws.{registers-after}
+use Rattle.meter_holding.proofs.HoldingLaws.{registers-after}
 use Rattle.item.specs.Table.{item_of}
 use Rattle.meter.specs.Meter.{noted, with_registers}
 use Rattle.meter.specs.Answer.{with_item, meter_after}

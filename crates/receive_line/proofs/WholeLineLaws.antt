@@ -23,15 +23,11 @@ use Rattle.line_block.specs.Block.{block_reading, delivered, block_read}
 use Rattle.line_block.specs.declared.BlockAnswer.{BlockAnswer}
 use Rattle.line_block.specs.declared.BlockAnswer.TheVariants as blocks
 use Rattle.receive_line.specs.WholeLine.{frames_in, received_line}
+use Rattle.receive_line.specs.Receiving.{Receiving}
 
 -- Where no bytes are gathered behind the first `at` of memory, it is as it was.
 pub gathered_none : (at count : ℕ) (ys m : List ℕ) → at + count ≤ length m → count ≡ 0 → m ≡ over (take at m ++ take count ys) m
 gathered_none at count ys m h e = rw (e, append-nil) (sym (over-itself at m (omega arith)))
-
--- A receiver has heard the symbols, the frames that it delivered stand over the front of the memory, and `at` is where they end.
-pub record Receiving (x : List Symbol) (m₀ m : List ℕ) (r : Receiver) (at : ℕ) : Type 0 where
-  pub heard : HasReceived x r
-  pub gathered : Puts (joined (scan 0 0 x).frames) at m₀ m
 
 -- Before the first symbol nothing is delivered.
 receiving_start : (m : List ℕ) → Receiving [] m m fresh 0

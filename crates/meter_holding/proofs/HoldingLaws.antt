@@ -16,7 +16,7 @@ use Rattle.item.specs.declared.table.Item.{Item}
 use Rattle.item.specs.declared.table.Lookup.TheVariants.{Listed}
 use Rattle.energy.specs.Energies.{Rows}
 use Rattle.energy.proofs.ColumnsLaws.{columns-length}
-use Rattle.meter_holding.specs.Holding.{location_of, held_at, value_held, registers_with, value_written, registers_after}
+use Rattle.meter_holding.specs.Holding.{location_of, held_at, value_held, registers_with, value_written, registers_after, FitsAt}
 use Rattle.meter_holding.specs.declared.Held.TheVariants.{Length}
 use Rattle.laws.specs.Memory.{outcome, over}
 use Rattle.laws.specs.Part.{with_part}
@@ -43,12 +43,6 @@ kind_of_each_byte : List Kind
 kind_of_each_byte =
     replicate 4 Date ++ (replicate 3 Time ++ (DemandPeriod ∷ Slip ∷ (replicate 6 MeterNumber
     ++ (replicate 2 (SettlementDay 1) ++ (replicate 2 (SettlementDay 2) ++ replicate 2 (SettlementDay 3))))))
-
--- So many bytes fit at a location.
-abbrev pub FitsAt : ℕ → Location → Type 0
-FitsAt n (Readings direction rate rates row rows) = Within direction rate rates row rows × (n ≡ 4 * rates * rows)
-FitsAt n OwnAddress = n ≡ 6
-FitsAt n (Register at) = at + n ≤ 21
 
 -- An item at its location: a register may be written and stands within the 21 bytes, all of which there belong to its kind.
 abbrev Located : Item → Location → Type 0
