@@ -1,7 +1,7 @@
 #!/usr/bin/env python3
 """Brings this repository's own definitions and lemmas to the spelling of today's Rattle.
 
-usage: python3 tools/respell.py        at the top of the repository, after /opt/rattle/port/port.py
+usage: python3 tools/respell.py        at the top of the repository, after the toolchain's port.py
 
 A word that was camelCase is in snake_case. A dash stays in a name where it joins two names, as in `length-append`; a plain word is
 joined by `_`. Types, modules and the code's own names stay. Where two names fall together the lemma gets `_lem`.

@@ -1,6 +1,6 @@
 -- The calendar in words: document 01's ranges of month and day with document 02's W3, days that follow each other, and their weekdays.
 use Rattle.std.specs.Prelude.{ℕ, ◌+◌, ◌%◌, ◌≤◌, ◌<◌, ◌≡◌, ◌⊎◌}
-use Rattle.item_calendar.specs.Calendar.{on}
+use Rattle.item_calendar.specs.Calendar.{on, is_leap, month_length}
 use Rattle.item_calendar.specs.declared.Date.{Date}
 
 -- April, June, September and November.
@@ -30,3 +30,8 @@ pub data Follows : Date → Date → Type 0 where
 pub data Weekday : Date → ℕ → Type 0 where
   first : Weekday (on 0 1 1) 6
   next : {today tomorrow : Date} {weekday : ℕ} → Follows today tomorrow → Weekday today weekday → Weekday tomorrow ((weekday + 1) % 7)
+
+-- What the tests of a date ask of its numbers.
+abbrev pub Tested : Date → Type 0
+Tested date =
+    (date.year ≤ 99) × (((1 ≤ date.month) × (date.month ≤ 12)) × ((1 ≤ date.day) × (date.day ≤ month_length (is_leap date.year) date.month)))

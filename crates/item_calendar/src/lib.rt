@@ -3,7 +3,7 @@
 
 ghost use Rattle.std.specs.Prelude.{◌≡◌, ◌≤◌};
 ghost use Rattle.item_calendar.specs.Calendar.{is_leap, month_length, is_date, days_of_months, weekday_of, falls_on};
-ghost use Rattle.item_calendar.specs.CalendarLaws.{Tested};
+ghost use Rattle.item_calendar.specs.CalendarWords.{Tested};
 
 use item_range::is_within;
 

@@ -36,7 +36,7 @@ abbrev pub Keeps : List Symbol → Choice → Type 0
 Keeps line taken =
     (place : ℕ) (frame : List ℕ) → taken place frame ↔ (Stands line place frame × (Covered taken place → ⊥))
 
--- Document 01's term taken: a frame is taken in a line by the choice that keeps the rule, of which there is exactly one (`one_Choice`).
+-- Document 01's term taken: a frame is taken in a line by the choice that keeps the rule, of which there is exactly one (`one_choice`).
 abbrev pub Taken : List Symbol → ℕ → List ℕ → Type 1
 Taken line place frame = (taken : Choice) → Keeps line taken → taken place frame
 

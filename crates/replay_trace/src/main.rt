@@ -14,7 +14,7 @@ use replay_text::{MESSAGE_MEMORY, Message, Reason, Written};
 use std::env::Env;
 use std::io::Write;
 
-// Says a message; every one fits (`written_words`).
+// Says a message; every one fits (`written-words`).
 fn say<W: Write>(to: &mut W, message: Message) {
     let mut text = [0u8; MESSAGE_MEMORY];
     let written = replay_text::write_message(message, &mut text);

@@ -37,8 +37,8 @@ fn goes_on(to: Stdout, answer: StepAnswer, left: u32) -> bool {
 }
 
 // The place after an answer: that of the next record where one is played.
-fn place_after(answer: &StepAnswer, place: usize) -> usize {
-    match *answer {
+fn place_after(answer: StepAnswer, place: usize) -> usize {
+    match answer {
         StepAnswer::Done => place,
         StepAnswer::Refused(_) => place,
         StepAnswer::BadRecord {
@@ -54,8 +54,8 @@ fn place_after(answer: &StepAnswer, place: usize) -> usize {
 }
 
 // How many bytes of text an answer says.
-fn text_of(answer: &StepAnswer) -> usize {
-    match *answer {
+fn text_of(answer: StepAnswer) -> usize {
+    match answer {
         StepAnswer::Done => 0,
         StepAnswer::Refused(_) => 0,
         StepAnswer::BadRecord {
@@ -85,10 +85,10 @@ fn step(to: Stdout, state: State, left: u32, trace: &[u8]) -> Made {
     let place = state.place;
     let stepped = walk_from(trace, place, replay, &mut out[0..size]);
     let answer = stepped.answer;
-    write_text(to, &out, text_of(&answer));
+    write_text(to, &out, text_of(answer));
     let after = stepped.state;
     let mut next = state.with_replay(after);
-    next.place = place_after(&answer, place);
+    next.place = place_after(answer, place);
     Made {
         state: next,
         more: goes_on(to, answer, left),

@@ -93,7 +93,6 @@ pub fn exchange(
         &mut reply[0..c],
         &mut value[0..d],
     );
-    let next = done.meter;
     write_exchanged(to, done, &sent, &heard, &reply, &value);
-    next
+    done.meter
 }

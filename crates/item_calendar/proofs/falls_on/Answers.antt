@@ -2,7 +2,7 @@
 use mathlib.Core.Path.{◌≡◌, sym, ◌∙◌}
 use mathlib.Core.Bool.{true}
 use Rattle.item_calendar.specs.Calendar.{is_date, falls_on}
-use Rattle.item_calendar.specs.CalendarLaws.{date-tests}
+use Rattle.item_calendar.proofs.CalendarLaws.{date-tests}
 use Rattle.item_calendar.proofs.falls_on.Goals as goal
 use Rattle.item_calendar.proofs.falls_on.Goals.{Else-not-is_date}
 

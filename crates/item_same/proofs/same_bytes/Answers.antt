@@ -1,15 +1,13 @@
 -- The laws of `same-walk` say what a turn of the loop and its end make of the bytes passed.
 use mathlib.Core.Path.{sym}
+use Rattle.std.proofs.Common.{arith}
 use borrow.Author.Tests.{eq-eqb, ne_eqb}
 use Rattle.laws.specs.Walk.{walked_start, walked_next, walked_stops, walked_end}
-use Rattle.item_same.specs.SameLaws.{lengths_differ, same-walk}
+use Rattle.item_same.specs.SameLaws.{same-walk}
 use Rattle.item_same.proofs.same_bytes.Goals as goal
 
-pub returns-then-a-b : goal.returns-then-a-b
-returns-then-a-b c = sym (lengths_differ _ _ c.if-a-b.true)
-
 pub loop-i-init : goal.loop-i-init
-loop-i-init c = (walked_start, c.if-a-b.false)
+loop-i-init c = (walked_start, omega arith)
 
 pub returns-then-a-i : goal.returns-then-a-i
 returns-then-a-i c =

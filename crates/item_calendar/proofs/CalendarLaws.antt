@@ -10,7 +10,7 @@ use Rattle.laws.specs.TestLaws.{pick_cases, either}
 use Rattle.laws.specs.AllLaws.{all-below}
 use Rattle.item_range.proofs.RangeLaws.{leb_iff, within-iff}
 use Rattle.item_calendar.specs.Calendar.{on, is_leap, has_thirty_days, month_length, is_date, days_of_months}
-use Rattle.item_calendar.specs.CalendarWords.{HasThirtyDays, IsDate}
+use Rattle.item_calendar.specs.CalendarWords.{HasThirtyDays, IsDate, Tested}
 use Rattle.item_calendar.specs.declared.Date.{Date}
 
 -- Leap when YY divides by four.
@@ -90,11 +90,6 @@ month_days leap month =
   where
     P : ℕ → Type 0
     P n = (28 ≤ n) × (n ≤ 31)
-
--- What the tests of a date ask of its numbers.
-abbrev pub Tested : Date → Type 0
-Tested date =
-    (date.year ≤ 99) × (((1 ≤ date.month) × (date.month ≤ 12)) × ((1 ≤ date.day) × (date.day ≤ month_length (is_leap date.year) date.month)))
 
 pub date-tests : (date : Date) → (is_date date ≡ true) ↔ Tested date
 unfolding is_date
