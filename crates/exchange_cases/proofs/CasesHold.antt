@@ -1,9 +1,8 @@
 -- Cases A to I hold: one proof over the table.
-use Rattle.std.specs.Prelude.{ℕ, ◌≤◌, ◌≡◌, refl, ◌↔◌, true, length, take, replicate}
+use Rattle.std.specs.Prelude.{ℕ, ◌≤◌, ◌≡◌, refl, ◌↔◌, true, length, replicate}
 use Rattle.std.proofs.Common.{ap, ◌∙◌, le-leb, arith}
-use mathlib.Core.List.{List, [], ◌∷◌, ◌++◌, map, append-nil, Memᴰ}
+use mathlib.Core.List.{List, [], ◌∷◌, ◌++◌, append-nil, Memᴰ}
 use Rattle.std.proofs.Math.Seq.{drop-nil}
-use Rattle.frame.specs.CaseFrames.{one, case_a, case_b, case_c, case_d, case_e, case_i}
 use Rattle.laws.specs.All.{all_of}
 use Rattle.laws.specs.Memory.{Outcome, outcome, over}
 use Rattle.frame.specs.Frame.{total, checksum_of, masked, unmasked, summed, frame_of, address_of, control_of, length_of, field_of, data_of, frame_for}
@@ -17,9 +16,9 @@ use Rattle.item_decimal.specs.Decimal.{is_decimal, first_bad_from, first_bad, al
 use Rattle.item_command.specs.Reply.{control_code, reply_to}
 use Rattle.item_same.specs.Same.{same}
 use Rattle.item.specs.Table.{item_of, energy_item, readings, other_rows, found}
-use Rattle.energy.specs.Reading.{zero_reading, reading_of, reading_in_range, reading_bytes}
+use Rattle.energy.specs.Reading.{reading_of, reading_in_range, reading_bytes}
 use Rattle.energy.specs.Energies.{Rows, row_in_range, rows_in_range, zero_rows, reading_at}
-use Rattle.line_terms.specs.Line.{Symbol, byte, silence, Choice, Keeps, Certain}
+use Rattle.line_terms.specs.Line.{Symbol, silence, Choice, Keeps, Certain}
 use Rattle.line_terms.specs.Places.{Found, Rising, joined}
 use Rattle.line_terms.proofs.PlaceLaws.{rising-same}
 use Rattle.line_terms.specs.Scan.{scan, reading_by, before, begins, before_silence, broken, bytes_before}
@@ -30,7 +29,7 @@ use Rattle.line_terms.specs.Rest.{RestOf}
 use Rattle.line_terms.proofs.RestLaws.{scan-rest}
 use Rattle.line_terms.proofs.ScanCertain.{found-certain, certain-found}
 use Rattle.line.proofs.Demand3.{Calls, heard, delivered_bytes, demand_3, ReceiverCall}
-use Rattle.meter.specs.Meter.{with_key, with_registers, within_ranges, fresh_meter, untouched}
+use Rattle.meter.specs.Meter.{within_ranges, fresh_meter, untouched}
 use Rattle.energy.specs.Columns.{column_bytes, columns_bytes}
 use Rattle.meter_decision.specs.Decision.{password_at, authorised, checks_of}
 use Rattle.meter_holding.specs.Holding as holding
@@ -46,18 +45,16 @@ use Rattle.meter.specs.Answer.{Treatment, silent, replies, reply_data, meter_aft
 use Rattle.meter.specs.declared.Meter.{Meter}
 use Rattle.meter.specs.declared.Answered.{Answered}
 use Rattle.meter.specs.declared.FrameAnswer.TheVariants.{Replied}
-use Rattle.reader.specs.Allowed.{request_value, is_allowed}
+use Rattle.reader.specs.Allowed.{is_allowed}
 use Rattle.reader_allowed.specs.Allowed.{address_allowed, content_checks, value_conditions, conditions_of, admission}
-use Rattle.reader.specs.Building.{wake_up, sent_data, request_frame, request_bytes, built}
+use Rattle.reader.specs.Building.{sent_data, request_frame, request_bytes, built}
 use Rattle.reader.specs.Judging.{is_judged, is_answer, call_checks, frame_checks, judgement_of, written, judged}
 use Rattle.reader_judgement.specs.Judging.{is_normal, is_error, answers_from, error_checks, normal_checks, reply_value, data_judgement}
-use Rattle.reader_judgement.specs.declared.Action.{Action}
-use Rattle.reader_judgement.specs.declared.Action.TheVariants.{ReadData, ReadAddress, WriteData}
 use Rattle.reader.specs.declared.Request.{Request}
 use Rattle.reader.specs.declared.Built.TheVariants.{Length}
 use Rattle.reader_judgement.specs.declared.Judgement.{Judgement}
 use Rattle.reader_judgement.specs.declared.Judgement.TheVariants.{Value, Error, Refused}
-use Rattle.exchange_cases.specs.Cases.{Case, line, goes_on, request, answer, judgement, table, at, meter}
+use Rattle.exchange_cases.specs.Cases.{Case, line, goes_on, request, answer, judgement, table, at}
 
 -- What a line comes to by computation, as it stands and with a silence behind it.
 abbrev LineComputes : List Symbol → List Found → List ℕ → Type 0

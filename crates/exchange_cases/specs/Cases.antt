@@ -1,62 +1,19 @@
 -- Document 01, "Frames to prove": cases A to I as one table.
-use Rattle.std.specs.Prelude.{ℕ, ◌≤◌, ◌≡◌, refl, ◌↔◌, true, length, take, replicate}
-use Rattle.std.proofs.Common.{ap, ◌∙◌, le-leb, arith}
-use mathlib.Core.List.{List, [], ◌∷◌, ◌++◌, map, append-nil, Memᴰ}
-use Rattle.std.proofs.Math.Seq.{drop-nil}
+use Rattle.std.specs.Prelude.{ℕ, true, take, replicate}
+use mathlib.Core.List.{List, [], ◌∷◌, ◌++◌, map}
 use Rattle.frame.specs.CaseFrames.{one, case_a, case_b, case_c, case_d, case_e, case_i}
-use Rattle.laws.specs.All.{all_of}
-use Rattle.laws.specs.Memory.{Outcome, outcome, over}
-use Rattle.frame.specs.Frame.{total, checksum_of, masked, unmasked, summed, frame_of, address_of, control_of, length_of, field_of, data_of, frame_for}
-use Rattle.frame.specs.Recognition.{recognised, recognised_body, recognised_end, is_all, exactly_one}
-use Rattle.frame.proofs.RecognitionLaws.{one-frame}
-use Rattle.item_address.specs.Address.{is_good, low_bytes, has_short_form, is_short}
-use Rattle.laws.specs.Checks.{first_failing}
-use Rattle.item_range.specs.Range.{within}
-use Rattle.item.specs.Content.{digits_at, minutes_in_range, in_range, content_of}
-use Rattle.item_decimal.specs.Decimal.{is_decimal, first_bad_from, first_bad, all_decimal, digits, low_digits, packed}
-use Rattle.item_command.specs.Reply.{control_code, reply_to}
-use Rattle.item_same.specs.Same.{same}
-use Rattle.item.specs.Table.{item_of, energy_item, readings, other_rows, found}
-use Rattle.energy.specs.Reading.{zero_reading, reading_of, reading_in_range, reading_bytes}
-use Rattle.energy.specs.Energies.{Rows, row_in_range, rows_in_range, zero_rows, reading_at}
-use Rattle.line_terms.specs.Line.{Symbol, byte, silence, Choice, Keeps, Certain}
-use Rattle.line_terms.specs.Places.{Found, Rising, joined}
-use Rattle.line_terms.proofs.PlaceLaws.{rising-same}
-use Rattle.line_terms.specs.Scan.{scan, reading_by, before, begins, before_silence, broken, bytes_before}
-use Rattle.line.specs.Receiver.{fresh}
-use Rattle.line_terms.proofs.ScanLaws.{scan-rising}
-use Rattle.line_terms.proofs.Closed.{taken-found}
-use Rattle.line_terms.specs.Rest.{RestOf}
-use Rattle.line_terms.proofs.RestLaws.{scan-rest}
-use Rattle.line_terms.proofs.ScanCertain.{found-certain, certain-found}
-use Rattle.line.proofs.Demand3.{Calls, heard, delivered_bytes, demand_3, ReceiverCall}
-use Rattle.meter.specs.Meter.{with_key, with_registers, within_ranges, fresh_meter, untouched}
-use Rattle.energy.specs.Columns.{column_bytes, columns_bytes}
-use Rattle.meter_decision.specs.Decision.{password_at, authorised, checks_of}
-use Rattle.meter_holding.specs.Holding as holding
-use Rattle.meter_holding.specs.Holding.{location_of, held_at, registers_with}
-use Rattle.laws.specs.Part.{with_part}
-use Rattle.meter_decision.specs.Request.{item_asked, level_of, password_of, operator_of, written_value}
-use Rattle.item_identifier.specs.Identifier.{identifier_of, identifier_bytes}
-use Rattle.item_command.specs.Command.{command_of}
-use Rattle.item_command.specs.Addressee.{names_meter, addressed}
-use Rattle.meter.proofs.Ranges.{within-ranges}
-use Rattle.meter.proofs.AnswerLaws.{answered-treated, not-replied}
-use Rattle.meter.specs.Answer.{Treatment, silent, replies, reply_data, meter_after, carried_out, treated, answered_with, delivered, answered}
+use Rattle.energy.specs.Reading.{zero_reading, reading_of}
+use Rattle.energy.specs.Energies.{Rows}
+use Rattle.line_terms.specs.Line.{Symbol, byte, silence}
+use Rattle.line_terms.specs.Places.{Found}
+use Rattle.meter.specs.Meter.{with_key, with_registers, fresh_meter}
 use Rattle.meter.specs.declared.Meter.{Meter}
-use Rattle.meter.specs.declared.Answered.{Answered}
-use Rattle.meter.specs.declared.FrameAnswer.TheVariants.{Replied}
-use Rattle.reader.specs.Allowed.{request_value, is_allowed}
-use Rattle.reader_allowed.specs.Allowed.{address_allowed, content_checks, value_conditions, conditions_of, admission}
-use Rattle.reader.specs.Building.{wake_up, sent_data, request_frame, request_bytes, built}
-use Rattle.reader.specs.Judging.{is_judged, is_answer, call_checks, frame_checks, judgement_of, written, judged}
-use Rattle.reader_judgement.specs.Judging.{is_normal, is_error, answers_from, error_checks, normal_checks, reply_value, data_judgement}
+use Rattle.reader.specs.Building.{wake_up}
 use Rattle.reader_judgement.specs.declared.Action.{Action}
 use Rattle.reader_judgement.specs.declared.Action.TheVariants.{ReadData, ReadAddress, WriteData}
 use Rattle.reader.specs.declared.Request.{Request}
-use Rattle.reader.specs.declared.Built.TheVariants.{Length}
 use Rattle.reader_judgement.specs.declared.Judgement.{Judgement}
-use Rattle.reader_judgement.specs.declared.Judgement.TheVariants.{Value, Error, Refused}
+use Rattle.reader_judgement.specs.declared.Judgement.TheVariants.{Value, Error}
 
 -- A row of the table.
 pub data Case : Type 0 where
@@ -133,7 +90,7 @@ abbrev pub unknown_read : List ℕ
 unknown_read = 0x68 ∷ 0x01 ∷ 0x00 ∷ 0x00 ∷ 0x00 ∷ 0x00 ∷ 0x00 ∷ 0x68 ∷ 0x11 ∷ 0x04 ∷ 0x33 ∷ 0x34 ∷ 0x34 ∷ 0x35 ∷ 0xB6 ∷ 0x16 ∷ []
 
 -- The table.
-pub table : List Case
+unfoldable pub table : List Case
 table =
     -- A: the request for the current forward total; on the line its frame alone, and behind wake-up bytes.
     request read_total (wake_up ++ case_a)
