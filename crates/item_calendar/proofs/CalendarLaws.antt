@@ -1,15 +1,13 @@
--- Which numbers are a date: the definition says what the words say. The days of the first months of a year.
-use Rattle.std.specs.Prelude.{ℕ, ◌+◌, ◌-◌, ◌*◌, ◌/◌, ◌%◌, ◌≤◌, ◌≡◌, Bool, true, false, ◌↔◌, ltb, eqb}
-use Rattle.std.proofs.Common.{sym, ◌∙◌, inl, inr, arith, add-one, eqb-true, eq-eqb}
+-- Which numbers are a date: the definition says what the words say.
+use Rattle.std.specs.Prelude.{ℕ, ◌%◌, ◌≤◌, ◌≡◌, Bool, true, ◌↔◌, eqb}
+use Rattle.std.proofs.Common.{sym, ◌∙◌, inl, inr, arith, eqb-true, eq-eqb}
 use Rattle.std.proofs.lemmas.Bool.{false≢true, eqb-false}
 use Rattle.std.proofs.Math.Bool.{and-eq-true_iff}
 use Rattle.std.proofs.Math.Logic.{⊎_map}
 use mathlib.Core.Logic.Iff
-use Rattle.laws.specs.Test.{pick}
 use Rattle.laws.specs.TestLaws.{pick_cases, either}
-use Rattle.laws.specs.AllLaws.{all-below}
 use Rattle.item_range.proofs.RangeLaws.{leb_iff, within-iff}
-use Rattle.item_calendar.specs.Calendar.{on, is_leap, has_thirty_days, month_length, is_date, days_of_months}
+use Rattle.item_calendar.specs.Calendar.{on, is_leap, has_thirty_days, month_length, is_date}
 use Rattle.item_calendar.specs.CalendarWords.{HasThirtyDays, IsDate, Tested}
 use Rattle.item_calendar.specs.declared.Date.{Date}
 
@@ -117,21 +115,3 @@ date-words date = (λ h. from ((date-tests date).0 h), λ d. (date-tests date).1
 
     to : IsDate date → Tested date
     to d = (d.year, ((d.month-least, d.month-most), (d.day-least, within-length is d)))
-
--- The days of one month more.
-pub days_next : (leap : Bool) (months : ℕ) → days_of_months leap (months + 1) ≡ days_of_months leap months + month_length leap (months + 1)
-unfolding days_of_months
-days_next leap months = rw (add-one months)
-
--- The days of at most eleven months by arithmetic: with 30 days for February, and behind it one or two fewer.
-abbrev pub by_arithmetic : Bool → ℕ → ℕ
-by_arithmetic leap months = pick (ltb months 2) ((367 * months + 5) / 12) ((367 * months + 5) / 12 - pick leap 1 2)
-
-pub days_figure : (leap : Bool) (months : ℕ) → months ≤ 11 → days_of_months leap months ≡ by_arithmetic leap months
-unfolding days_of_months month_length has_thirty_days
-days_figure true months h = all-below (λ (m : ℕ). days_of_months true m ≡ by_arithmetic true m) 12 (search depth 14) months (omega arith)
-days_figure false months h = all-below (λ (m : ℕ). days_of_months false m ≡ by_arithmetic false m) 12 (search depth 14) months (omega arith)
-
-pub days_most : (leap : Bool) (months : ℕ) → months ≤ 11 → days_of_months leap months ≤ 336
-days_most leap months h =
-    rw (days_figure leap months h) (pick_cases (λ (n : ℕ). n ≤ 336) (ltb months 2) (λ _. omega arith) (λ _. omega arith))

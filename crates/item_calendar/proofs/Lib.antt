@@ -1,3 +1,4 @@
 pub mod Examples
 pub mod WeekdayLaws
 pub mod CalendarLaws
+pub mod DaysLaws

@@ -7,7 +7,8 @@ use Rattle.laws.specs.Test.{pick}
 use Rattle.laws.specs.TestLaws.{pick_cases, not_true}
 use Rattle.item_calendar.specs.Calendar.{on, is_leap, has_thirty_days, month_length, is_date, days_of_months, day_number, weekday_of, falls_on}
 use Rattle.item_calendar.specs.CalendarWords.{IsDate, Follows, in_month, new-month, new-year, Weekday, first, next}
-use Rattle.item_calendar.proofs.CalendarLaws.{month_days, days_next, leap-iff, date-tests, date-words}
+use Rattle.item_calendar.proofs.CalendarLaws.{month_days, leap-iff, date-tests, date-words}
+use Rattle.item_calendar.proofs.DaysLaws.{days_next}
 use Rattle.item_calendar.specs.declared.Date.{Date}
 
 -- A day within the length of its month is a date, and a date is within it.

@@ -1,6 +1,6 @@
 -- What is returned is `by_arithmetic`, which is what the months add up to.
 use borrow.Author.Tests.{lt-ltb, le-ltb}
-use Rattle.item_calendar.proofs.CalendarLaws.{days_figure}
+use Rattle.item_calendar.proofs.DaysLaws.{days_figure}
 use Rattle.item_calendar.proofs.days_of_months.Goals as goal
 
 pub returns-then-months-lt2 : goal.returns-then-months-lt2

@@ -2,7 +2,8 @@
 use Prim.Native.Nat.{◌-◌, ◌≤◌}
 use native.Mathlib.Omega.{arith}
 use Rattle.item_calendar.specs.Calendar.{is_leap, day_number, weekday_of}
-use Rattle.item_calendar.proofs.CalendarLaws.{month_days, days_most}
+use Rattle.item_calendar.proofs.CalendarLaws.{month_days}
+use Rattle.item_calendar.proofs.DaysLaws.{days_most}
 use Rattle.item_calendar.proofs.weekday_of.Goals as goal
 use Rattle.item_calendar.proofs.weekday_of.Goals.{After-days_of_months-months}
 
