@@ -1,22 +1,18 @@
 -- What C is told: answers that are enums as numbers, and a request whose action is a control.
-use Rattle.std.specs.Prelude.{ℕ, eqb}
+use Rattle.std.specs.Prelude.{ℕ, eqb, Err, Ok, Result}
+use Rattle.frame.specs.Refusals.{number_of}
+use Rattle.frame.specs.declared.refusal.Refusal.{Refusal}
+use Rattle.reader_judgement.specs.declared.Reply.{Reply}
+use Rattle.reader_judgement.specs.declared.Reply.TheVariants.{Error, Value}
 use Rattle.laws.specs.Memory.{Outcome, outcome}
 use Rattle.laws.specs.Test.{pick}
 use Rattle.meter.specs.declared.Meter.{Meter}
 use Rattle.meter.specs.declared.Answered.{Answered}
 use Rattle.meter.specs.declared.KeySet.{KeySet}
-use Rattle.meter.specs.declared.FrameAnswer.{FrameAnswer}
-use Rattle.meter.specs.declared.FrameAnswer.TheVariants as frames
 use Rattle.meter.specs.declared.Counted.{Counted}
-use Rattle.meter_counting.specs.declared.HostAnswer.{HostAnswer}
-use Rattle.meter_counting.specs.declared.HostAnswer.TheVariants as host
 use Rattle.reader.specs.declared.Request.{Request}
-use Rattle.reader.specs.declared.Built.{Built}
-use Rattle.reader.specs.declared.Built.TheVariants as building
 use Rattle.reader_judgement.specs.declared.Action.{Action}
 use Rattle.reader_judgement.specs.declared.Action.TheVariants.{ReadData, ReadAddress, WriteData}
-use Rattle.reader_judgement.specs.declared.Judgement.{Judgement}
-use Rattle.reader_judgement.specs.declared.Judgement.TheVariants as judging
 use Rattle.call_ends.specs.declared.MeterAnswer.{MeterAnswer}
 use Rattle.call_ends.specs.declared.MeterSet.{MeterSet}
 use Rattle.call_ends.specs.declared.MeterCounted.{MeterCounted}
@@ -29,9 +25,9 @@ abbrev pub told : {A : Type 0} → {B : Type 0} → (A → B) → Outcome A → 
 told tells o = outcome (tells o.answer) o.memory
 
 -- The number of an answer to the host: the refusal's, or 0.
-abbrev pub refusal_of : HostAnswer → ℕ
-refusal_of host.Done = 0
-refusal_of (host.Refused n) = n
+abbrev pub refusal_of : Result Unit Refusal → ℕ
+refusal_of (Ok tt) = 0
+refusal_of (Err refusal) = number_of refusal
 
 abbrev pub meter_set_of : KeySet → MeterSet
 meter_set_of set = record { meter = set.meter; refusal = refusal_of set.answer }
@@ -40,26 +36,31 @@ abbrev pub meter_counted_of : Counted → MeterCounted
 meter_counted_of counted = record { meter = counted.meter; energies = counted.energies; refusal = refusal_of counted.answer }
 
 -- The answer to a frame: a refusal, or 0 and the reply's length.
-abbrev pub meter_answer_by : Meter → FrameAnswer → MeterAnswer
-meter_answer_by m (frames.Refused n) = record { meter = m; refusal = n; length = 0 }
-meter_answer_by m (frames.Replied n) = record { meter = m; refusal = 0; length = n }
+abbrev pub meter_answer_by : Meter → Result ℕ Refusal → MeterAnswer
+meter_answer_by m (Err refusal) = record { meter = m; refusal = number_of refusal; length = 0 }
+meter_answer_by m (Ok n) = record { meter = m; refusal = 0; length = n }
 
 abbrev pub meter_answer_of : Answered → MeterAnswer
 meter_answer_of answered = meter_answer_by answered.meter answered.answer
 
 -- The answer to the building of a request: a refusal, or 0 and its length.
-abbrev pub request_built_of : Built → RequestBuilt
-request_built_of (building.Refused n) = record { refusal = n; length = 0 }
-request_built_of (building.Length n) = record { refusal = 0; length = n }
+abbrev pub request_built_of : Result ℕ Refusal → RequestBuilt
+request_built_of (Err refusal) = record { refusal = number_of refusal; length = 0 }
+request_built_of (Ok n) = record { refusal = 0; length = n }
+
+-- A judgement with the number of its refusal.
+abbrev pub numbered : Result Reply Refusal → Result Reply ℕ
+numbered (Ok reply) = Ok reply
+numbered (Err refusal) = Err (number_of refusal)
 
 -- A judgement: 0 with a value's length, 1 with an error byte, 2 with a refusal.
 abbrev pub judged_as : ℕ → ℕ → ReplyJudged
 judged_as which number = record { which = which; number = number }
 
-abbrev pub reply_judged_of : Judgement → ReplyJudged
-reply_judged_of (judging.Value n) = judged_as 0 n
-reply_judged_of (judging.Error byte) = judged_as 1 byte
-reply_judged_of (judging.Refused n) = judged_as 2 n
+abbrev pub reply_judged_of : Result Reply ℕ → ReplyJudged
+reply_judged_of (Ok (Value n)) = judged_as 0 n
+reply_judged_of (Ok (Error byte)) = judged_as 1 byte
+reply_judged_of (Err n) = judged_as 2 n
 
 -- What a control asks for: 11 reads data, 14 writes them, any other reads the address.
 unfoldable pub action_of : ℕ → Action

@@ -9,13 +9,12 @@ ghost use Rattle.meter.specs.Host.{key_set, pulsed_by, settled_by};
 ghost use Rattle.meter.specs.Answer.{answered};
 ghost use Rattle.reader.specs.Building.{built};
 ghost use Rattle.reader.specs.Judging.{judged};
-ghost use Rattle.call_ends.specs.Numbers.{told, refusal_of, meter_set_of, meter_counted_of, meter_answer_of, request_built_of, reply_judged_of, request_of};
+ghost use Rattle.call_ends.specs.Numbers.{told, refusal_of, meter_set_of, meter_counted_of, meter_answer_of, request_built_of, numbered, reply_judged_of, request_of};
 
 use energy::Energies;
-use meter::{Answered, Counted, FrameAnswer, Meter};
-use meter_counting::HostAnswer;
-use reader::Built;
-use reader_judgement::Judgement;
+use frame::refusal::Refusal;
+use meter::{Answered, Counted, KeySet, Meter};
+use reader_judgement::Reply;
 use request::AskedRequest;
 
 // The number of an answer that is no refusal.
@@ -71,79 +70,96 @@ pub struct ReplyJudged {
     pub number: usize,
 }
 
-// The number of an answer to the host.
-fn refusal_of(answer: HostAnswer) -> u8
+// The number of an answer to the host. Neither type is this crate's, so that it is no `From`.
+fn refusal_of(answer: Result<(), Refusal>) -> u8
     ensures { result ≡ refusal_of answer }
 {
     match answer {
-        HostAnswer::Done => DONE,
-        HostAnswer::Refused(refusal) => refusal,
+        Ok(()) => DONE,
+        Err(refusal) => refusal.number(),
     }
 }
 
 // A meter and its readings as a call hands them back.
-fn counted_of(counted: Counted) -> MeterCounted
-    ensures { result ≡ meter_counted_of counted }
-{
-    let meter = counted.meter;
-    let energies = counted.energies;
-    let answer = counted.answer;
-    MeterCounted {
-        energies,
-        refusal: refusal_of(answer),
-        meter,
+impl From<Counted> for MeterCounted {
+    ghost from_gives = { λ counted told. told ≡ meter_counted_of counted };
+
+    fn from(counted: Counted) -> Self {
+        MeterCounted {
+            energies: counted.energies,
+            refusal: refusal_of(counted.answer),
+            meter: counted.meter,
+        }
     }
 }
 
-// A judgement as numbers.
-pub fn judged_as(judgement: Judgement) -> ReplyJudged
-    ensures { result ≡ reply_judged_of judgement }
-{
-    match judgement {
-        Judgement::Value(length) => ReplyJudged {
-            which: VALUE,
-            number: length,
-        },
-        Judgement::Error(byte) => ReplyJudged {
-            which: ERROR,
-            number: byte as usize,
-        },
-        Judgement::Refused(refusal) => ReplyJudged {
-            which: REFUSED,
-            number: refusal as usize,
-        },
+// A meter and the answer to its key's setting as a call hands them back.
+impl From<KeySet> for MeterSet {
+    ghost from_gives = { λ set told. told ≡ meter_set_of set };
+
+    fn from(set: KeySet) -> Self {
+        MeterSet {
+            meter: set.meter,
+            refusal: refusal_of(set.answer),
+        }
     }
 }
 
 // The answer to a frame as numbers.
-fn answer_of(answered: Answered) -> MeterAnswer
-    ensures { result ≡ meter_answer_of answered }
-{
-    let meter = answered.meter;
-    let answer = answered.answer;
-    match answer {
-        FrameAnswer::Refused(refusal) => MeterAnswer {
-            meter,
-            refusal,
-            length: 0,
-        },
-        FrameAnswer::Replied(length) => MeterAnswer {
-            meter,
-            refusal: DONE,
-            length,
-        },
+impl From<Answered> for MeterAnswer {
+    ghost from_gives = { λ answered told. told ≡ meter_answer_of answered };
+
+    fn from(answered: Answered) -> Self {
+        let meter = answered.meter;
+        match answered.answer {
+            Err(refusal) => MeterAnswer {
+                meter,
+                refusal: refusal.number(),
+                length: 0,
+            },
+            Ok(length) => MeterAnswer {
+                meter,
+                refusal: DONE,
+                length,
+            },
+        }
     }
 }
 
 // The answer to the building of a request as numbers.
-fn built_as(built: Built) -> RequestBuilt
-    ensures { result ≡ request_built_of built }
+impl From<Result<usize, Refusal>> for RequestBuilt {
+    ghost from_gives = { λ built told. told ≡ request_built_of built };
+
+    fn from(built: Result<usize, Refusal>) -> Self {
+        match built {
+            Err(refusal) => RequestBuilt {
+                refusal: refusal.number(),
+                length: 0,
+            },
+            Ok(length) => RequestBuilt {
+                refusal: DONE,
+                length,
+            },
+        }
+    }
+}
+
+// A judgement as numbers, whose refusal is any number. It is no `From` like the others: a `Result<Reply, u8>` does not say of what its number is.
+pub fn judged_as(judgement: Result<Reply, u8>) -> ReplyJudged
+    ensures { result ≡ reply_judged_of judgement }
 {
-    match built {
-        Built::Refused(refusal) => RequestBuilt { refusal, length: 0 },
-        Built::Length(length) => RequestBuilt {
-            refusal: DONE,
-            length,
+    match judgement {
+        Ok(Reply::Value(length)) => ReplyJudged {
+            which: VALUE,
+            number: length,
+        },
+        Ok(Reply::Error(byte)) => ReplyJudged {
+            which: ERROR,
+            number: byte as usize,
+        },
+        Err(refusal) => ReplyJudged {
+            which: REFUSED,
+            number: refusal as usize,
         },
     }
 }
@@ -152,20 +168,14 @@ fn built_as(built: Built) -> RequestBuilt
 pub fn call_answer(meter: Meter, energies: Energies, bytes: &[u8], out: &mut [u8]) -> MeterAnswer
     ensures { outcome result out.new ≡ told meter_answer_of (answered bytes.now meter energies.forward energies.reverse out.old) }
 {
-    answer_of(meter.answer(energies.forward_rows(), energies.reverse_rows(), bytes, out))
+    meter.answer(energies, bytes, out).into()
 }
 
 // The key set, by `meter::Meter::set_key`.
 pub fn call_set_key(meter: Meter, energies: Energies, on: bool) -> MeterSet
     ensures { result ≡ meter_set_of (key_set on meter energies.forward energies.reverse) }
 {
-    let set = meter.set_key(energies.forward_rows(), energies.reverse_rows(), on);
-    let after = set.meter;
-    let answer = set.answer;
-    MeterSet {
-        meter: after,
-        refusal: refusal_of(answer),
-    }
+    meter.set_key(energies, on).into()
 }
 
 // A pulse counted, by `meter::Meter::pulse`.
@@ -178,34 +188,31 @@ pub fn call_pulse(
 ) -> MeterCounted
     ensures { result ≡ meter_counted_of (pulsed_by amount direction rate meter energies.forward energies.reverse) }
 {
-    counted_of(meter.pulse(
-        energies.forward_rows(),
-        energies.reverse_rows(),
-        amount,
-        direction,
-        rate,
-    ))
+    meter.pulse(energies, amount, direction, rate).into()
 }
 
 // A settlement, by `meter::Meter::settle`.
 pub fn call_settle(meter: Meter, energies: Energies) -> MeterCounted
     ensures { result ≡ meter_counted_of (settled_by meter energies.forward energies.reverse) }
 {
-    let forward = energies.forward_rows();
-    let reverse = energies.reverse_rows();
-    counted_of(meter.settle(forward, reverse))
+    meter.settle(energies).into()
 }
 
 // A request built, by `reader::Request::build`.
 pub fn call_build(request: AskedRequest, out: &mut [u8]) -> RequestBuilt
     ensures { outcome result out.new ≡ told request_built_of (built (request_of request) out.old) }
 {
-    built_as(request.as_request().build(out))
+    request.as_request().build(out).into()
 }
 
 // A reply judged, by `reader::Request::judge`.
 pub fn call_judge(request: AskedRequest, bytes: &[u8], out: &mut [u8]) -> ReplyJudged
-    ensures { outcome result out.new ≡ told reply_judged_of (judged (request_of request) bytes.now out.old) }
+    ensures { outcome result out.new ≡ told (λ judgement. reply_judged_of (numbered judgement)) (judged (request_of request) bytes.now out.old) }
 {
-    judged_as(request.as_request().judge(bytes, out))
+    judged_as(
+        request
+            .as_request()
+            .judge(bytes, out)
+            .map_err(Refusal::number),
+    )
 }

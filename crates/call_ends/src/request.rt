@@ -20,7 +20,7 @@ pub struct AskedRequest {
     pub count: usize,
 }
 
-// What a control asks for.
+// What a control asks for. Neither type is this crate's, so that it is no `From`.
 #[tactic(auto, unfolding(crate::specs::Numbers::action_of))]
 fn action_of(control: u8) -> Action
     ensures { result ≡ action_of control }
@@ -38,19 +38,25 @@ impl AskedRequest {
     pub fn as_request(self) -> Request
         ensures { result ≡ request_of self }
     {
-        let address = self.address;
-        let password = self.password;
-        let operator = self.operator;
-        let value = self.value;
-        Request {
-            action: action_of(self.control),
+        let AskedRequest {
+            control,
             address,
-            identifier: self.identifier,
-            level: self.level,
+            identifier,
+            level,
             password,
             operator,
             value,
-            count: self.count,
+            count,
+        } = self;
+        Request {
+            action: action_of(control),
+            address,
+            identifier,
+            level,
+            password,
+            operator,
+            value,
+            count,
         }
     }
 }

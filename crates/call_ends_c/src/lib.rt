@@ -7,7 +7,7 @@ ghost use Rattle.meter.specs.Host.{key_set, pulsed_by, settled_by};
 ghost use Rattle.meter.specs.Answer.{answered};
 ghost use Rattle.reader.specs.Building.{built};
 ghost use Rattle.reader.specs.Judging.{judged};
-ghost use Rattle.call_ends.specs.Numbers.{told, meter_set_of, meter_counted_of, meter_answer_of, request_built_of, reply_judged_of, request_of};
+ghost use Rattle.call_ends.specs.Numbers.{told, meter_set_of, meter_counted_of, meter_answer_of, request_built_of, numbered, reply_judged_of, request_of};
 
 use call_ends::request::AskedRequest;
 use call_ends::{MeterAnswer, MeterCounted, MeterSet, ReplyJudged, RequestBuilt};
@@ -62,7 +62,7 @@ pub extern "C" fn call_build(request: AskedRequest, out: &mut [u8]) -> RequestBu
 
 #[unsafe(no_mangle)]
 pub extern "C" fn call_judge(request: AskedRequest, bytes: &[u8], out: &mut [u8]) -> ReplyJudged
-    ensures { outcome result out.new ≡ told reply_judged_of (judged (request_of request) bytes.now out.old) }
+    ensures { outcome result out.new ≡ told (λ judgement. reply_judged_of (numbered judgement)) (judged (request_of request) bytes.now out.old) }
 {
     call_ends::call_judge(request, bytes, out)
 }

@@ -1,18 +1,20 @@
 -- The numbers that C is told of an exchange, each as bench/ends.h has it.
-use Rattle.std.specs.Prelude.{ℕ, ◌≡◌, refl}
+use Rattle.frame.specs.Refusals.{number_of}
+use Rattle.std.specs.Prelude.{ℕ, ◌≡◌, refl, Result}
+use Rattle.frame.specs.declared.refusal.Refusal.{Refusal}
+use Rattle.reader_judgement.specs.declared.Reply.{Reply}
 use Rattle.exchange.specs.declared.Exchanged.{Exchanged}
 use Rattle.exchange.specs.declared.ExchangeAnswer.TheVariants as exchanging
-use Rattle.reader_judgement.specs.declared.Judgement.{Judgement}
-use Rattle.call_ends.specs.Numbers.{reply_judged_of}
+use Rattle.call_ends.specs.Numbers.{numbered, reply_judged_of}
 use Rattle.call_exchange.specs.Numbers.{exchange_judged_of, exchange_done_of}
 
 -- A judgement as it is told by itself; 3 with the number of the meter's silence, 4 with a refusal with which nothing was sent.
-pub exchange-numbers : (judgement : Judgement) (n : ℕ)
-    → (exchange_judged_of (exchanging.Judged judgement) ≡ reply_judged_of judgement)
+pub exchange-numbers : (judgement : Result Reply Refusal) (n : Refusal)
+    → (exchange_judged_of (exchanging.Judged judgement) ≡ reply_judged_of (numbered judgement))
     × ((exchange_judged_of (exchanging.Silent n)).which ≡ 3)
-    × ((exchange_judged_of (exchanging.Silent n)).number ≡ n)
+    × ((exchange_judged_of (exchanging.Silent n)).number ≡ number_of n)
     × ((exchange_judged_of (exchanging.Refused n)).which ≡ 4)
-    × ((exchange_judged_of (exchanging.Refused n)).number ≡ n)
+    × ((exchange_judged_of (exchanging.Refused n)).number ≡ number_of n)
 exchange-numbers judgement n = (refl, refl, refl, refl, refl)
 
 -- The meter and the lengths are those of the exchange.

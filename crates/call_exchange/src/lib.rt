@@ -11,6 +11,7 @@ use call_ends::request::AskedRequest;
 use call_ends::{ReplyJudged, judged_as};
 use energy::Energies;
 use exchange::{ExchangeAnswer, Exchanged};
+use frame::refusal::Refusal;
 use meter::Meter;
 
 // Which answer an exchange is that comes to no judgement, behind those of a judgement.
@@ -34,14 +35,14 @@ fn exchanged_as(answer: ExchangeAnswer) -> ReplyJudged
     ensures { result ≡ exchange_judged_of answer }
 {
     match answer {
-        ExchangeAnswer::Judged(judgement) => judged_as(judgement),
+        ExchangeAnswer::Judged(judgement) => judged_as(judgement.map_err(Refusal::number)),
         ExchangeAnswer::Silent(refusal) => ReplyJudged {
             which: SILENT,
-            number: refusal as usize,
+            number: refusal.number() as usize,
         },
         ExchangeAnswer::Refused(refusal) => ReplyJudged {
             which: NOT_SENT,
-            number: refusal as usize,
+            number: refusal.number() as usize,
         },
     }
 }
@@ -77,8 +78,7 @@ pub fn call_exchange(
     done_as(exchange::exchange(
         request.as_request(),
         meter,
-        energies.forward_rows(),
-        energies.reverse_rows(),
+        energies,
         sent,
         heard,
         reply,

@@ -9,6 +9,7 @@ pub type Reading = u32;
 pub(crate) const ZERO: Reading = 0;
 
 // The reading of a number.
+#[tactic(auto, unfolding(crate::specs::Reading::reading_of))]
 pub fn of(number: u32) -> Reading
     ensures { result ≡ reading_of number }
 {
@@ -16,6 +17,7 @@ pub fn of(number: u32) -> Reading
 }
 
 // Whether a reading is within its range.
+#[tactic(auto, unfolding(crate::specs::Reading::reading_in_range))]
 pub(crate) fn is_in_range(reading: Reading) -> bool
     ensures { result ≡ reading_in_range reading }
 {
@@ -27,11 +29,12 @@ pub fn bytes_of(reading: Reading) -> [u8; 4]
     ensures { result ≡ reading_bytes reading }
 {
     let mut bytes = [0u8; 4];
-    pack((reading % 100000000) as u64, &mut bytes);
+    let _ = pack((reading % 100000000) as u64, &mut bytes);
     bytes
 }
 
 // A reading with an amount added, modulo 100,000,000.
+#[tactic(auto, unfolding(crate::specs::Reading::plus_amount))]
 pub fn plus(reading: Reading, amount: u32) -> Reading
     ensures { result ≡ plus_amount reading amount }
 {

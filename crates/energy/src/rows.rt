@@ -12,29 +12,13 @@ pub fn zero() -> Rows
     [[reading::ZERO; 5]; 13]
 }
 
-// Whether every reading of a row is within its range.
-fn row_in_range(row: [Reading; 5]) -> bool
-    ensures { result ≡ energies.row_in_range row }
-{
-    let mut all = true;
-    let mut i = 0;
-    while i < 5 {
-        all = all & reading::is_in_range(row[i]);
-        i += 1;
-    }
-    all
-}
-
-// Whether every reading is within its range: one pass with a flag and no way out before the end.
+// Whether every reading is within its range: one pass with a flag and no way out before the end, which is faster than `all` or a fold.
 pub fn in_range(rows: &Rows) -> bool
     ensures { result ≡ energies.rows_in_range rows.now }
 {
-    let each: &[[Reading; 5]] = rows;
     let mut all = true;
-    let mut i = 0;
-    while i < each.len() {
-        all = all & row_in_range(each[i]);
-        i += 1;
+    for reading in rows.as_flattened() {
+        all = all & reading::is_in_range(*reading);
     }
     all
 }

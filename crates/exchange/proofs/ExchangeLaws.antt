@@ -1,5 +1,6 @@
 -- Laws of the steps of an exchange: the request that is built, the frame that is heard, the reply within its memory, and all of them together.
-use Rattle.std.specs.Prelude.{ℕ, ◌≤◌, ◌≡◌, refl, List, ◌∷◌, [], true, false, length, drop}
+use Rattle.std.specs.Prelude.{ℕ, ◌≤◌, ◌≡◌, refl, List, ◌∷◌, [], true, false, length, drop, Err, Ok, Result}
+use Rattle.frame.specs.declared.refusal.Refusal.{Refusal}
 use Rattle.std.proofs.Math.Path.{sym, ap, subst}
 use Rattle.std.proofs.Common.{◌∙◌, arith, le-leb, leb-true}
 use Rattle.std.proofs.Math.Bool.{and-eq-true_iff}
@@ -21,8 +22,6 @@ use Rattle.meter.specs.declared.Answered.{Answered}
 use Rattle.reader.specs.Allowed.{RequestSized, is_allowed}
 use Rattle.reader.specs.Building.{request_frame, request_bytes, built}
 use Rattle.reader.proofs.BuildingLaws.{request-length, sent-six}
-use Rattle.reader.specs.declared.Built.{Built}
-use Rattle.reader.specs.declared.Built.TheVariants.{Length, Refused}
 use Rattle.reader.specs.declared.Request.{Request}
 use Rattle.exchange.specs.Exchange.{Memories, memories, outcome_of, is_enough, enough, WakeUpFrame, WithinReply, concluded, carried}
 use Rattle.exchange.specs.ExchangeTerms.{EnoughMemory}
@@ -46,28 +45,28 @@ unfolding is_enough
 memory-enough lent room = rw (le-leb 66 _ room.sent, le-leb 212 _ room.heard, le-leb 212 _ room.reply, le-leb 196 _ room.value)
 
 -- A length is no refusal.
-no_refusal : {n k : ℕ} → Length n ≡ Refused k → ⊥
+no_refusal : {n : ℕ} {k : Refusal} → Ok n ≡ Err k → ⊥
 no_refusal e = let z : ◌≡◌ {A = ℕ} 0 1 = cc in omega arith
 
 -- What building leaves, where there is memory enough.
-module _ (request : Request) {answer : Built} {m left : List ℕ} (room : 66 ≤ length m) (e : outcome answer left ≡ built request m) where
+module _ (request : Request) {answer : Result ℕ Refusal} {m left : List ℕ} (room : 66 ≤ length m) (e : outcome answer left ≡ built request m) where
   -- With a length: the request is allowed, and its bytes are put there.
-  pub built-puts : {n : ℕ} → answer ≡ Length n → (is_allowed request ≡ true) × Puts (request_bytes request) n m left
+  pub built-puts : {n : ℕ} → answer ≡ Ok n → (is_allowed request ≡ true) × Puts (request_bytes request) n m left
   unfolding built
   built-puts {n} told =
-      pick_cases (λ (o : Outcome Built). outcome answer left ≡ o → (is_allowed request ≡ true) × Puts (request_bytes request) n m left) (is_allowed request)
-      (λ allowed f. let said : Length n ≡ Length (length (request_bytes request)) = sym told ∙ ap (λ (o : Outcome Built). o.answer) f in
-      (allowed, record { count = cc said; memory = ap (λ (o : Outcome Built). o.memory) f }))
-      (λ refused f. absurd (no_refusal (sym told ∙ ap (λ (o : Outcome Built). o.answer) f)))
+      pick_cases (λ (o : Outcome (Result ℕ Refusal)). outcome answer left ≡ o → (is_allowed request ≡ true) × Puts (request_bytes request) n m left) (is_allowed request)
+      (λ allowed f. let said : Ok n ≡ Ok (length (request_bytes request)) = sym told ∙ ap (λ (o : Outcome (Result ℕ Refusal)). o.answer) f in
+      (allowed, record { count = cc said; memory = ap (λ (o : Outcome (Result ℕ Refusal)). o.memory) f }))
+      (λ refused f. absurd (no_refusal (sym told ∙ ap (λ (o : Outcome (Result ℕ Refusal)). o.answer) f)))
       (rw (le-leb 66 (length m) room) at e)
 
   -- With a refusal: the request is not allowed, and the memory is as it was.
-  pub built-refuses : {k : ℕ} → answer ≡ Refused k → (is_allowed request ≡ false) × (left ≡ m)
+  pub built-refuses : {k : Refusal} → answer ≡ Err k → (is_allowed request ≡ false) × (left ≡ m)
   unfolding built
   built-refuses told =
-      pick_cases (λ (o : Outcome Built). outcome answer left ≡ o → (is_allowed request ≡ false) × (left ≡ m)) (is_allowed request)
-      (λ allowed f. absurd (no_refusal (sym (ap (λ (o : Outcome Built). o.answer) f) ∙ told)))
-      (λ refused f. (refused, ap (λ (o : Outcome Built). o.memory) f))
+      pick_cases (λ (o : Outcome (Result ℕ Refusal)). outcome answer left ≡ o → (is_allowed request ≡ false) × (left ≡ m)) (is_allowed request)
+      (λ allowed f. absurd (no_refusal (sym (ap (λ (o : Outcome (Result ℕ Refusal)). o.answer) f) ∙ told)))
+      (λ refused f. (refused, ap (λ (o : Outcome (Result ℕ Refusal)). o.memory) f))
       (rw (le-leb 66 (length m) room) at e)
 
 -- The frame of an allowed request is one.

@@ -1,4 +1,5 @@
 -- Requests to another address get silence: the control code of a request asks for the one command of its action, and that is not for this meter.
+use Rattle.frame.specs.declared.refusal.Refusal.TheVariants.{NotForThisMeter}
 use Rattle.std.specs.Prelude.{◌≡◌, true}
 use Rattle.std.proofs.Common.{sym, ◌∙◌}
 use Rattle.energy.specs.Energies.{Rows}
@@ -26,6 +27,6 @@ module _ (request : Request) (typed : Typed request) (allowed : is_allowed reque
 
   pub gets_silence : (MeantFor request m → ⊥) → GetsSilence request m forward reverse lent
   gets_silence foreign =
-      silent-exchange request typed allowed m forward reverse ranges lent room 3
+      silent-exchange request typed allowed m forward reverse ranges lent room NotForThisMeter
       (foreign-silent (request_frame request) m forward reverse lent.reply sized ranges room.reply (request-frame request typed allowed)
       (frame-foreign foreign))

@@ -1,7 +1,8 @@
 -- Reads across the line: the reader is given exactly what the meter holds. The meter's answer is the normal reply, it is an answer to the
 -- request, and its data pass the reader's checks.
 use Prim.Native.Nat.{ℕ, ◌+◌, ◌≤◌}
-use Rattle.std.specs.Prelude.{◌≡◌}
+use Rattle.reader_judgement.specs.declared.Reply.TheVariants.{Value}
+use Rattle.std.specs.Prelude.{◌≡◌, Ok}
 use Rattle.std.proofs.Math.Path.{refl, subst}
 use Rattle.std.proofs.Common.{ap, ◌∙◌, arith, eq-eqb}
 use mathlib.Core.List.{List, [], ◌++◌}
@@ -26,7 +27,6 @@ use Rattle.meter_decision.specs.Request.{item_asked}
 use Rattle.item_identifier.specs.Identifier.{identifier_of, identifier_bytes}
 use Rattle.item_command.specs.Addressee.{ReadFor, IsFor}
 use Rattle.meter.specs.declared.Meter.{Meter}
-use Rattle.meter.specs.declared.FrameAnswer.TheVariants.{Replied}
 use Rattle.item_command.specs.declared.Command.TheVariants as command
 use Rattle.reader.specs.Allowed.{is_allowed}
 use Rattle.reader.proofs.AllowedWords.{admitted-read}
@@ -34,7 +34,6 @@ use Rattle.reader.specs.Building.{sent_to, sent_data, request_frame}
 use Rattle.reader_judgement.specs.Judging.{command_for, is_normal, answers_from, reply_value}
 use Rattle.reader_judgement.specs.declared.Action.{Action}
 use Rattle.reader_judgement.specs.declared.Action.TheVariants.{ReadData, ReadAddress, WriteData}
-use Rattle.reader_judgement.specs.declared.Judgement.TheVariants.{Value}
 use Rattle.reader.specs.declared.Request.{Request}
 use Rattle.meter_holding.specs.Holding.{value_for}
 use Rattle.meter_holding.proofs.EnergiesWords.{readings-held}
@@ -67,7 +66,7 @@ module _ (request : Request) (typed : Typed request) (allowed : is_allowed reque
 
   -- The meter answers a read of data by 91 with the identifier and the value.
   data_answer : request.action ≡ ReadData → MeantFor request m → answered (request_frame request) m forward reverse lent.reply
-      ≡ outcome (answered_with (untouched m) (Replied (12 + length replied))) (over (frame_for m.address 0x91 replied) lent.reply)
+      ≡ outcome (answered_with (untouched m) (Ok (12 + length replied))) (over (frame_for m.address 0x91 replied) lent.reply)
   unfolding delivered reply_to control_code reply_data meter_after sent_data identifier_bytes item_asked checks_of
   data_answer e for-meter =
       let w = admitted-read request typed.sized allowed e in
@@ -81,7 +80,7 @@ module _ (request : Request) (typed : Typed request) (allowed : is_allowed reque
   -- The reader judges that reply to be the value.
   data_outcome : request.action ≡ ReadData → MeantFor request m
       → exchanged request m forward reverse lent
-      ≡ comes_to request (untouched m) (Judged (Value (length held))) (frame_for m.address 0x91 replied) held lent
+      ≡ comes_to request (untouched m) (Judged (Ok (Value (length held)))) (frame_for m.address 0x91 replied) held lent
   unfolding is_normal reply_to control_code reply_value identifier_bytes
   data_outcome e for-meter =
       let w = admitted-read request typed.sized allowed e in
@@ -97,14 +96,14 @@ module _ (request : Request) (typed : Typed request) (allowed : is_allowed reque
       (data_answer e for-meter)
       (rw e)
       (rw e (read-answered request.address m.address typed.sized.address sized.address ranges.address for))
-      (Value (length held))
+      (Ok (Value (length held)))
       held
       (rw e (value-judged request.identifier m.address held size decimal))
       (rw e)
 
   -- The meter answers a read of its address by 93 with it, and the reader judges that reply to be the address.
   address-answer : request.action ≡ ReadAddress → MeantFor request m → answered (request_frame request) m forward reverse lent.reply
-      ≡ outcome (answered_with (untouched m) (Replied (12 + length m.address))) (over (frame_for m.address 0x93 m.address) lent.reply)
+      ≡ outcome (answered_with (untouched m) (Ok (12 + length m.address))) (over (frame_for m.address 0x93 m.address) lent.reply)
   unfolding delivered reply_to control_code reply_data meter_after sent_data checks_of
   address-answer e for-meter =
       answered-normal (request_frame request) m forward reverse lent.reply command.ReadAddress (reaches ReadAddress e for-meter)
@@ -113,7 +112,7 @@ module _ (request : Request) (typed : Typed request) (allowed : is_allowed reque
 
   address-outcome : request.action ≡ ReadAddress → MeantFor request m
       → exchanged request m forward reverse lent
-      ≡ comes_to request (untouched m) (Judged (Value (length m.address))) (frame_for m.address 0x93 m.address) m.address lent
+      ≡ comes_to request (untouched m) (Judged (Ok (Value (length m.address)))) (frame_for m.address 0x93 m.address) m.address lent
   unfolding is_normal reply_to control_code answers_from reply_value
   address-outcome e for-meter =
       let own : List ℕ = m.address in
@@ -122,7 +121,7 @@ module _ (request : Request) (typed : Typed request) (allowed : is_allowed reque
       (address-answer e for-meter)
       (rw e)
       (rw e)
-      (Value (length own))
+      (Ok (Value (length own)))
       own
       (rw e (address-judged request.identifier own sized.address ranges.address))
       (rw e)
@@ -131,7 +130,7 @@ module _ (request : Request) (typed : Typed request) (allowed : is_allowed reque
   outcome_by : (action : Action) → request.action ≡ action → IsRead action → MeantFor request m
       → let held = held_for action request.identifier m forward reverse in
       exchanged request m forward reverse lent
-      ≡ comes_to request (untouched m) (Judged (Value (length held))) (reply_frame action request.identifier m.address held) held lent
+      ≡ comes_to request (untouched m) (Judged (Ok (Value (length held)))) (reply_frame action request.identifier m.address held) held lent
   outcome_by ReadData e reads for-meter = data_outcome e for-meter
   outcome_by ReadAddress e reads for-meter = address-outcome e for-meter
   outcome_by WriteData e reads for-meter = absurd reads

@@ -1,7 +1,8 @@
 -- Laws of a meter's replies: a request meant for a meter reaches its checks, a reply from its address is an answer to a read, and what it
 -- holds within its ranges passes the reader's checks.
 use Prim.Native.Nat.{ℕ, ◌≤◌}
-use Rattle.std.specs.Prelude.{◌≡◌, true, false, length, drop, eqb}
+use Rattle.reader_judgement.specs.declared.Reply.TheVariants.{Value}
+use Rattle.std.specs.Prelude.{◌≡◌, true, false, length, drop, eqb, Ok}
 use Rattle.std.proofs.Common.{◌∙◌, arith, le-leb, eq-eqb}
 use mathlib.Core.List.{List, ◌++◌, append-nil}
 use Rattle.std.proofs.Math.Bool.{and-eq-true_iff}
@@ -35,7 +36,6 @@ use Rattle.reader.specs.Building.{sent_to, request_frame}
 use Rattle.item_identifier.specs.Identifier.{identifier_bytes}
 use Rattle.reader_judgement.specs.Judging.{command_for, is_error, answers_from, normal_checks, reply_value, data_judgement}
 use Rattle.reader_judgement.specs.declared.Action.TheVariants.{ReadData, ReadAddress}
-use Rattle.reader_judgement.specs.declared.Judgement.TheVariants.{Value}
 use Rattle.reader.specs.declared.Request.{Request}
 use Rattle.exchange.specs.ExchangeTerms.{Typed, MeantFor}
 use Rattle.exchange.proofs.RequestFrameLaws.{address-six, request-frame, request-address, request-control}
@@ -70,13 +70,13 @@ module _ (address own : List ℕ) (six : length address ≡ 6) (own-six : length
 
 -- What the reader makes of the data of a normal reply: the value of a 91 that has the item's length and is decimal, and of a 93 the address.
 pub value-judged : (identifier : ℕ) (from value : List ℕ) → has_length (item_of identifier) (length value) ≡ true → Decimal value
-    → data_judgement ReadData identifier 0x91 from (identifier_bytes identifier ++ value) ≡ Value (length value)
+    → data_judgement ReadData identifier 0x91 from (identifier_bytes identifier ++ value) ≡ Ok (Value (length value))
 unfolding data_judgement is_error reply_to control_code first_failing normal_checks reply_value identifier_bytes
 value-judged identifier from value long decimal =
     let four : 4 ≤ length (identifier_bytes identifier ++ value) = omega arith in
     rw (le-leb 4 _ four, same_refl (identifier_bytes identifier), long, decimal-all value decimal)
 
-pub address-judged : (identifier : ℕ) (own : List ℕ) → length own ≡ 6 → Good own → data_judgement ReadAddress identifier 0x93 own own ≡ Value (length own)
+pub address-judged : (identifier : ℕ) (own : List ℕ) → length own ≡ 6 → Good own → data_judgement ReadAddress identifier 0x93 own own ≡ Ok (Value (length own))
 unfolding data_judgement is_error first_failing normal_checks reply_value
 address-judged identifier own six own-good =
     rw (eq-eqb (length own) 6 six, decimal-all own own-good.decimal, same_refl own, is_good_lem own own-good)

@@ -1,6 +1,8 @@
 -- The steps of an exchange: the request's frame taken apart, an exchange that goes over the line, and a reply that is judged.
 use Prim.Native.Nat.{ℕ, ◌+◌, ◌≤◌}
-use Rattle.std.specs.Prelude.{◌≡◌, true, ◌||◌}
+use Rattle.frame.specs.declared.refusal.Refusal.{Refusal}
+use Rattle.reader_judgement.specs.declared.Reply.{Reply}
+use Rattle.std.specs.Prelude.{◌≡◌, true, ◌||◌, Err, Ok, Result}
 use Rattle.std.proofs.Math.Path.{refl}
 use Rattle.std.proofs.Common.{◌∙◌, arith}
 use mathlib.Core.List.{List, [], ◌∷◌, ◌++◌, append-nil}
@@ -21,7 +23,6 @@ use Rattle.item_command.specs.Command.{control_for}
 use Rattle.item_identifier.specs.Identifier.{identifier_bytes}
 use Rattle.item_identifier.proofs.IdentifierLaws.{identifier_are_bytes}
 use Rattle.meter.specs.declared.Meter.{Meter}
-use Rattle.meter.specs.declared.FrameAnswer.TheVariants as frames
 use Rattle.reader.specs.Allowed.{request_value, is_allowed}
 use Rattle.reader.proofs.AllowedWords.{admitted_write}
 use Rattle.reader.proofs.BuildingLaws.{sent-six}
@@ -32,7 +33,6 @@ use Rattle.reader.proofs.JudgingLaws.{allowed-judged}
 use Rattle.reader_judgement.specs.declared.Action.{Action}
 use Rattle.reader_judgement.specs.declared.Action.TheVariants.{ReadData, ReadAddress, WriteData}
 use Rattle.reader.specs.declared.Request.{Request}
-use Rattle.reader_judgement.specs.declared.Judgement.{Judgement}
 use Rattle.exchange.specs.Exchange.{Memories, concluded, carried, exchanged}
 use Rattle.exchange.proofs.ExchangeLaws.{sent-frame, memory-enough}
 use Rattle.exchange.specs.ExchangeTerms.{Typed, EnoughMemory, comes_to}
@@ -93,7 +93,7 @@ module _ (request : Request) (typed : Typed request) (allowed : is_allowed reque
     goes_over = rw ((within-ranges m forward reverse).1 ranges, memory-enough lent room, allowed)
 
     -- Where the meter gives no reply.
-    pub silent-exchange : (n : ℕ) → answered (request_frame request) m forward reverse lent.reply ≡ outcome (answered_with m (frames.Refused n)) lent.reply
+    pub silent-exchange : (n : Refusal) → answered (request_frame request) m forward reverse lent.reply ≡ outcome (answered_with m (Err n)) lent.reply
         → exchanged request m forward reverse lent ≡ comes_to request m (Silent n) [] [] lent
     unfolding carried concluded
     silent-exchange n e = goes_over ∙ rw e
@@ -101,10 +101,10 @@ module _ (request : Request) (typed : Typed request) (allowed : is_allowed reque
     -- Where it replies with a frame from an address, the reader judges by control, address and data, if they are an answer to the request.
     pub replied-exchange : (after : Meter) (from : List ℕ) (control : ℕ) (payload : List ℕ) → length from ≡ 6 → length payload ≤ 200 → Bytes payload
         → answered (request_frame request) m forward reverse lent.reply
-        ≡ outcome (answered_with after (frames.Replied (12 + length payload))) (over (frame_for from control payload) lent.reply)
+        ≡ outcome (answered_with after (Ok (12 + length payload))) (over (frame_for from control payload) lent.reply)
         → (is_normal request.action control || is_error request.action control) ≡ true
         → answers_from request.action request.address from ≡ true
-        → (judgement : Judgement) (value : List ℕ) → data_judgement request.action request.identifier control from payload ≡ judgement
+        → (judgement : Result Reply Refusal) (value : List ℕ) → data_judgement request.action request.identifier control from payload ≡ judgement
         → written judgement (reply_value request.action payload) lent.value ≡ over value lent.value
         → exchanged request m forward reverse lent ≡ comes_to request after (Judged judgement) (frame_for from control payload) value lent
     unfolding carried concluded judged judgement_of call_checks frame_checks first_failing is_answer

@@ -1,6 +1,11 @@
 -- What the papers say of an exchange's answer, and all that an exchange can answer: a refusal before anything is sent, and then all is as
 -- before; the silence of a meter that the request is not for, which is 3; or what the reader made of the reply, which is never a refusal.
-use Rattle.std.specs.Prelude.{ℕ, ◌≡◌, [], Bool, ◌↔◌, ◌⊎◌}
+use Rattle.std.specs.Prelude.{ℕ, ◌≡◌, [], Bool, ◌↔◌, ◌⊎◌, Err, Ok, Result}
+use Rattle.frame.specs.Refusals.{number_of}
+use Rattle.frame.specs.declared.refusal.Refusal.{Refusal}
+use Rattle.frame.specs.declared.refusal.Refusal.TheVariants.{NotAllowed, NotForThisMeter, OutOfRange, ShortMemory}
+use Rattle.reader_judgement.specs.declared.Reply.{Reply}
+use Rattle.reader_judgement.specs.declared.Reply.TheVariants.{Error, Value}
 use Rattle.std.proofs.Math.Path.{refl}
 use Rattle.std.proofs.Common.{sym, ap, subst, ◌∙◌, inl, inr, arith}
 use Rattle.std.proofs.Math.Bool.{true, false, true≢false, and-eq-true_iff}
@@ -8,7 +13,6 @@ use borrow.Author.Tests.{leb-true, le-leb}
 use Rattle.laws.specs.Memory.{LeftAlone}
 use Rattle.laws.specs.Said.{Said, silence, refusal, IsRefusal, Refuses, refuses, answers}
 use Rattle.laws.specs.TestLaws.{pick_cases, not_true}
-use Rattle.frame.specs.Refusals.{short_memory, not_for_this_meter, not_allowed, out_of_range}
 use Rattle.item_command.specs.Addressee.{addressed}
 use Rattle.item_command.proofs.AddresseeLaws.{for-iff}
 use Rattle.item_command.specs.Reply.{not_authorised}
@@ -26,8 +30,6 @@ use Rattle.reader_judgement.specs.Judging.{command_for}
 use Rattle.reader_judgement.specs.Said.{judgement_said}
 use Rattle.reader_judgement.specs.declared.Action.{Action}
 use Rattle.reader_judgement.specs.declared.Action.TheVariants.{ReadData, ReadAddress, WriteData}
-use Rattle.reader_judgement.specs.declared.Judgement.{Judgement}
-use Rattle.reader_judgement.specs.declared.Judgement.TheVariants as judging
 use Rattle.exchange.specs.Exchange.{Memories, ExchangeOutcome, outcome_of, refused_with, enough, exchanged}
 use Rattle.exchange.proofs.ExchangeLaws.{enough-memory, memory-enough}
 use Rattle.exchange.specs.ExchangeTerms.{Typed, MeantFor, IsRead, EnoughMemory, comes_to, Authorised}
@@ -40,24 +42,24 @@ use Rattle.exchange.specs.declared.ExchangeAnswer.TheVariants.{Refused, Silent, 
 
 -- A refusal; the meter's silence, by its number; or the judgement.
 abbrev pub exchange_said : ExchangeAnswer → Said
-exchange_said (Refused n) = refusal n
-exchange_said (Silent n) = silence n
+exchange_said (Refused n) = refusal (number_of n)
+exchange_said (Silent n) = silence (number_of n)
 exchange_said (Judged judgement) = judgement_said judgement
 
 -- A judgement that is no refusal.
-abbrev IsGood : Judgement → Type 0
-IsGood (judging.Value n) = Unit
-IsGood (judging.Error byte) = Unit
-IsGood (judging.Refused n) = ⊥
+abbrev IsGood : Result Reply Refusal → Type 0
+IsGood (Ok (Value n)) = Unit
+IsGood (Ok (Error byte)) = Unit
+IsGood (Err n) = ⊥
 
 -- The answer of an outcome; a judgement that is no refusal says none; and one answer is not another.
 abbrev answer : ExchangeOutcome → ExchangeAnswer
 answer o = o.returned.answer
 
-good-says : (judgement : Judgement) → IsGood judgement → IsRefusal (judgement_said judgement) → ⊥
-good-says (judging.Value n) good r = r
-good-says (judging.Error byte) good r = r
-good-says (judging.Refused n) good r = good
+good-says : (judgement : Result Reply Refusal) → IsGood judgement → IsRefusal (judgement_said judgement) → ⊥
+good-says (Ok (Value n)) good r = r
+good-says (Ok (Error byte)) good r = r
+good-says (Err n) good r = good
 
 abbrev kind_of : ExchangeAnswer → ℕ
 kind_of (Refused n) = 0
@@ -71,16 +73,16 @@ module _ (request : Request) (m : Meter) (forward reverse : Rows) (lent : Memori
 
   -- The ways that an exchange ends.
   data Ends : Type 0 where
-    stops : (n : ℕ) → NotSent → exchanged request m forward reverse lent ≡ outcome_of (refused_with n m) lent → Ends
-    silent : (NotSent → ⊥) → exchanged request m forward reverse lent ≡ comes_to request m (Silent not_for_this_meter) [] [] lent → Ends
-    judges : (judgement : Judgement) → IsGood judgement → (NotSent → ⊥) → (exchanged request m forward reverse lent).returned.answer ≡ Judged judgement → Ends
+    stops : (n : Refusal) → NotSent → exchanged request m forward reverse lent ≡ outcome_of (refused_with n m) lent → Ends
+    silent : (NotSent → ⊥) → exchanged request m forward reverse lent ≡ comes_to request m (Silent NotForThisMeter) [] [] lent → Ends
+    judges : (judgement : Result Reply Refusal) → IsGood judgement → (NotSent → ⊥) → (exchanged request m forward reverse lent).returned.answer ≡ Judged judgement → Ends
 
   -- What is refused, before anything is sent: 16, then 1 for any of the four memories, then 5; all as before.
   pub record ExchangeRefuses : Type 0 where
-    pub out_of_range_lem : (InRanges m forward reverse → ⊥) → exchanged request m forward reverse lent ≡ outcome_of (refused_with 16 m) lent
-    pub short-memory : InRanges m forward reverse → (EnoughMemory lent → ⊥) → exchanged request m forward reverse lent ≡ outcome_of (refused_with 1 m) lent
+    pub out_of_range_lem : (InRanges m forward reverse → ⊥) → exchanged request m forward reverse lent ≡ outcome_of (refused_with OutOfRange m) lent
+    pub short-memory : InRanges m forward reverse → (EnoughMemory lent → ⊥) → exchanged request m forward reverse lent ≡ outcome_of (refused_with ShortMemory m) lent
     pub not-allowed : InRanges m forward reverse → EnoughMemory lent → (AllowedInWords request.action request → ⊥)
-        → exchanged request m forward reverse lent ≡ outcome_of (refused_with 5 m) lent
+        → exchanged request m forward reverse lent ≡ outcome_of (refused_with NotAllowed m) lent
 
   pub exchange-refuses : RequestSized request → ExchangeRefuses
   unfolding exchanged
@@ -102,11 +104,11 @@ module _ (request : Request) (m : Meter) (forward reverse : Rows) (lent : Memori
     pub refused : let o = exchanged request m forward reverse lent in
         Refuses {S = Meter × Memories} (exchange_said o.returned.answer) NotSent (m, lent) (o.returned.meter, o.lent)
     -- A silence is 3, and leaves the meter and the memory for reply and value as they were.
-    pub silence_is_3 : let o = exchanged request m forward reverse lent in (n : ℕ) → o.returned.answer ≡ Silent n → n ≡ 3
-    pub silence_leaves : let o = exchanged request m forward reverse lent in (n : ℕ) → o.returned.answer ≡ Silent n
+    pub silence_is_3 : let o = exchanged request m forward reverse lent in (n : Refusal) → o.returned.answer ≡ Silent n → n ≡ NotForThisMeter
+    pub silence_leaves : let o = exchanged request m forward reverse lent in (n : Refusal) → o.returned.answer ≡ Silent n
         → LeftAlone m o.returned.meter × LeftAlone lent.reply o.lent.reply × LeftAlone lent.value o.lent.value
     -- No reply of a meter is refused by the judge.
-    pub reply_is_good : (n : ℕ) → (exchanged request m forward reverse lent).returned.answer ≡ Judged (judging.Refused n) → ⊥
+    pub reply_is_good : (n : Refusal) → (exchanged request m forward reverse lent).returned.answer ≡ Judged (Err n) → ⊥
 
   module _ (typed : Typed request) (sized : MeterSized m) where
     -- An allowed request to a meter within its ranges, with memory enough.
@@ -123,22 +125,22 @@ module _ (request : Request) (m : Meter) (forward reverse : Rows) (lent : Memori
       write_ends writes for-meter true true k h =
           let both = (and-eq-true_iff _ _).0 h in
           let right : Authorised request m = record { key_on_lem = k; level = leb-true _ _ both.0; password = same-equal _ _ both.1 } in
-          judges (judging.Value 0) tt sent (ap answer (write_sets request typed allowed m forward reverse sized ranges lent room writes for-meter right).outcome)
+          judges (Ok (Value 0)) tt sent (ap answer (write_sets request typed allowed m forward reverse sized ranges lent room writes for-meter right).outcome)
       write_ends writes for-meter true false k h =
-          judges (judging.Error not_authorised) tt sent
+          judges (Ok (Error not_authorised)) tt sent
           (ap answer (write_fails request typed allowed m forward reverse sized ranges lent room writes for-meter
           (λ right. true≢false (sym ((and-eq-true_iff _ _).1 (le-leb _ _ right.level, equal-same _ _ right.password)) ∙ h))))
       write_ends writes for-meter false a k h =
-          judges (judging.Error not_authorised) tt sent
+          judges (Ok (Error not_authorised)) tt sent
           (ap answer (write_fails request typed allowed m forward reverse sized ranges lent room writes for-meter (λ right. true≢false (sym right.key_on_lem ∙ k))))
 
       -- It is meant for this meter.
       meant_ends : (action : Action) → request.action ≡ action → MeantFor request m → Ends
       meant_ends ReadData e for-meter =
-          judges (judging.Value _) tt sent
+          judges (Ok (Value _)) tt sent
           (ap answer (read_gives request typed allowed m forward reverse sized ranges lent room (subst IsRead (sym e) tt) for-meter).outcome)
       meant_ends ReadAddress e for-meter =
-          judges (judging.Value _) tt sent
+          judges (Ok (Value _)) tt sent
           (ap answer (read_gives request typed allowed m forward reverse sized ranges lent room (subst IsRead (sym e) tt) for-meter).outcome)
       meant_ends WriteData e for-meter =
           write_ends e for-meter m.key (authorised 4 request.level request.password m.passwords) refl refl
@@ -160,9 +162,9 @@ module _ (request : Request) (m : Meter) (forward reverse : Rows) (lent : Memori
         (λ w. pick_cases P (enough lent)
         (λ r. pick_cases P (is_allowed request)
         (λ a e. sent-ends a ((within-ranges m forward reverse).0 w) (enough-memory lent r) _ refl)
-        (λ not e. stops not_allowed (inr (inr (λ words. true≢false (sym ((allowed-words request typed.sized).1 words) ∙ not)))) e))
-        (λ few e. stops short_memory (inr (inl (λ room. true≢false (sym (memory-enough lent room) ∙ few)))) e))
-        (λ out e. stops out_of_range (inl (λ ranges. true≢false (sym ((within-ranges m forward reverse).1 ranges) ∙ out))) e)
+        (λ not e. stops NotAllowed (inr (inr (λ words. true≢false (sym ((allowed-words request typed.sized).1 words) ∙ not)))) e))
+        (λ few e. stops ShortMemory (inr (inl (λ room. true≢false (sym (memory-enough lent room) ∙ few)))) e))
+        (λ out e. stops OutOfRange (inl (λ ranges. true≢false (sym ((within-ranges m forward reverse).1 ranges) ∙ out))) e)
         refl
       where
         P : ExchangeOutcome → Type 0
@@ -191,5 +193,5 @@ module _ (request : Request) (m : Meter) (forward reverse : Rows) (lent : Memori
               refused = rw e (answers (good-says judgement good) sent);
               silence_is_3 = rw e (λ k said. absurd (omega (arith, ap kind_of said)));
               silence_leaves = rw e (λ k said. absurd (omega (arith, ap kind_of said)));
-              reply_is_good = rw e (λ k said. let same : judgement ≡ judging.Refused k = cc in subst IsGood same good);
+              reply_is_good = rw e (λ k said. let same : judgement ≡ Err k = cc in subst IsGood same good);
             }

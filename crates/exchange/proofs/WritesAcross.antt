@@ -1,6 +1,7 @@
 -- Writes across the line: the value and the operator code are set exactly when every check holds. What a meter reads off an allowed request is
 -- what the request says, so that of the meter's checks only key, level and password are open; either reply is one that the reader takes.
-use Rattle.std.specs.Prelude.{ℕ, ◌+◌, ◌/◌, ◌%◌, ◌≤◌, ◌≡◌, true, length}
+use Rattle.std.specs.Prelude.{ℕ, ◌+◌, ◌/◌, ◌%◌, ◌≤◌, ◌≡◌, true, length, Ok, Some}
+use Rattle.reader_judgement.specs.declared.Reply.TheVariants.{Error, Value}
 use Rattle.std.proofs.Math.Path.{refl, ap}
 use Rattle.std.proofs.Common.{sym, subst, ◌∙◌, length-take-le}
 use mathlib.Core.List.{List, [], ◌∷◌}
@@ -10,7 +11,6 @@ use Rattle.laws.specs.Checks.{first_failing}
 use Rattle.item_command.specs.Reply.{control_code, reply_to}
 use Rattle.item_same.specs.SameLaws.{equal-same}
 use Rattle.item.specs.Table.{item_of}
-use Rattle.item.specs.declared.table.Lookup.TheVariants.{Listed}
 use Rattle.energy.specs.Energies.{Rows}
 use Rattle.meter.specs.Meter.{MeterSized, untouched}
 use Rattle.meter.proofs.MeterLaws.{untouched-keeps}
@@ -35,7 +35,6 @@ use Rattle.reader.specs.Building.{sent_to, sent_data, request_frame}
 use Rattle.reader_judgement.specs.Judging.{command_for, is_normal, is_error, answers_from, error_checks, normal_checks, reply_value, data_judgement}
 use Rattle.reader_judgement.specs.declared.Action.{Action}
 use Rattle.reader_judgement.specs.declared.Action.TheVariants.{WriteData}
-use Rattle.reader_judgement.specs.declared.Judgement.TheVariants.{Value, Error}
 use Rattle.reader.specs.declared.Request.{Request}
 use Rattle.exchange.specs.Exchange.{Memories, exchanged}
 use Rattle.exchange.specs.ExchangeTerms.{Typed, MeantFor, reply_frame, EnoughMemory, comes_to, Authorised, WriteSets, WriteFails}
@@ -100,7 +99,7 @@ module _ (request : Request) (typed : Typed request) (allowed : is_allowed reque
     frame-control : control_of (request_frame request) ≡ 0x14
     frame-control = request-control request typed allowed ∙ ap (λ (action : Action). control_for (command_for action)) writes
 
-    frame-listed : item_of (identifier_of (data_of (request_frame request))) ≡ Listed admitted.item
+    frame-listed : item_of (identifier_of (data_of (request_frame request))) ≡ Some admitted.item
     frame-listed = rw frame-reads.identifier admitted.listed
 
     -- The reader takes a reply from the meter's address.
@@ -166,8 +165,8 @@ module _ (request : Request) (typed : Typed request) (allowed : is_allowed reque
         after = done.after;
         outcome =
             replied-exchange request typed allowed m forward reverse ranges lent room done.after m.address 0x94 [] sized.address (omega arith) tt
-            done.answer (rw writes) (from-own writes for-meter) (Value 0) [] (rw writes) (rw writes)
-            ∙ ap (λ (action : Action). comes_to request done.after (Judged (Value 0)) (reply_frame action request.identifier m.address []) [] lent)
+            done.answer (rw writes) (from-own writes for-meter) (Ok (Value 0)) [] (rw writes) (rw writes)
+            ∙ ap (λ (action : Action). comes_to request done.after (Judged (Ok (Value 0))) (reply_frame action request.identifier m.address []) [] lent)
             (sym writes);
         item = checks.row.1.0.0;
         listed = rw reads.identifier at checks.row.1.0.1;
@@ -191,11 +190,11 @@ module _ (request : Request) (typed : Typed request) (allowed : is_allowed reque
 
   -- A write that is not authorised is answered by error byte 04, and everything that the meter holds is as it was.
   pub write_fails : request.action ≡ WriteData → MeantFor request m → (Authorised request m → ⊥) → exchanged request m forward reverse lent
-      ≡ comes_to request (untouched m) (Judged (Error 0x04)) (frame_for m.address 0xD4 (0x04 ∷ [])) [] lent
+      ≡ comes_to request (untouched m) (Judged (Ok (Error 0x04))) (frame_for m.address 0xD4 (0x04 ∷ [])) [] lent
   unfolding is_normal is_error reply_to control_code data_judgement first_failing error_checks
   write_fails writes for-meter unauthorised =
       replied-exchange request typed allowed m forward reverse ranges lent room (untouched m) m.address 0xD4 (0x04 ∷ []) sized.address (omega arith)
-      (omega arith, tt) (answered_04 writes for-meter unauthorised) (rw writes) (from-own writes for-meter) (Error 0x04) [] (rw writes) refl
+      (omega arith, tt) (answered_04 writes for-meter unauthorised) (rw writes) (from-own writes for-meter) (Ok (Error 0x04)) [] (rw writes) refl
 
   pub write_failed : request.action ≡ WriteData → MeantFor request m → (Authorised request m → ⊥) → WriteFails request m forward reverse lent 0x04
   write_failed writes for-meter unauthorised = record { outcome = write_fails writes for-meter unauthorised; kept = untouched-keeps m }

@@ -1,16 +1,15 @@
 -- What an exchange comes to, in terms of what each of its steps comes to: the request built, the meter's answer, the reply judged.
-use Rattle.std.specs.Prelude.{ℕ, ◌≤◌, ◌≡◌, List, Bool, ◌&&◌, length, take, drop, leb}
+use Rattle.std.specs.Prelude.{ℕ, ◌≤◌, ◌≡◌, List, Bool, ◌&&◌, length, take, drop, leb, Err, Ok, Result}
+use Rattle.frame.specs.declared.refusal.Refusal.{Refusal}
+use Rattle.frame.specs.declared.refusal.Refusal.TheVariants.{NotAllowed, OutOfRange, ShortMemory}
 use Rattle.laws.specs.Memory.{Outcome, outcome, over}
 use Rattle.laws.specs.Test.{pick}
-use Rattle.frame.specs.Refusals.{short_memory, not_allowed, out_of_range}
 use Rattle.frame.specs.Frame.{Frame, most_frame}
 use Rattle.energy.specs.Energies.{Rows}
 use Rattle.meter.specs.Meter.{within_ranges}
 use Rattle.meter.specs.Answer.{answered}
 use Rattle.meter.specs.declared.Meter.{Meter}
 use Rattle.meter.specs.declared.Answered.{Answered}
-use Rattle.meter.specs.declared.FrameAnswer.{FrameAnswer}
-use Rattle.meter.specs.declared.FrameAnswer.TheVariants as frames
 use Rattle.reader.specs.Allowed.{is_allowed}
 use Rattle.reader.specs.Building.{wake_up, request_frame, request_bytes, request_memory}
 use Rattle.reader.specs.Judging.{judged, value_memory}
@@ -41,8 +40,8 @@ outcome_of returned lent = record { returned = returned; lent = lent }
 abbrev pub exchanged_with : Meter → ExchangeAnswer → ℕ → ℕ → Exchanged
 exchanged_with m answer delivered replied = record { meter = m; answer = answer; delivered = delivered; replied = replied }
 
--- A refusal: its number, and the meter as before.
-abbrev pub refused_with : ℕ → Meter → Exchanged
+-- A refusal, and the meter as before.
+abbrev pub refused_with : Refusal → Meter → Exchanged
 refused_with n m = exchanged_with m (Refused n) 0 0
 
 -- At least 66 bytes for the request, 212 for the receiver, 212 for the reply and 196 for the value.
@@ -59,14 +58,14 @@ pub record WakeUpFrame (bytes : List ℕ) : Type 0 where
   pub frame : Frame (drop 4 bytes)
 
 -- A reply lies within its memory.
-abbrev pub WithinReply : FrameAnswer → List ℕ → Type 0
-WithinReply (frames.Replied n) reply = n ≤ length reply
-WithinReply (frames.Refused n) reply = Unit
+abbrev pub WithinReply : Result ℕ Refusal → List ℕ → Type 0
+WithinReply (Ok n) reply = n ≤ length reply
+WithinReply (Err n) reply = Unit
 
 -- Silence where the meter gave no reply; else the reply is judged.
-abbrev pub concluded_by : Request → ℕ → FrameAnswer → Meter → List ℕ → List ℕ → Outcome Exchanged
-concluded_by request delivered (frames.Refused n) m reply value = outcome (exchanged_with m (Silent n) delivered 0) value
-concluded_by request delivered (frames.Replied n) m reply value =
+abbrev pub concluded_by : Request → ℕ → Result ℕ Refusal → Meter → List ℕ → List ℕ → Outcome Exchanged
+concluded_by request delivered (Err n) m reply value = outcome (exchanged_with m (Silent n) delivered 0) value
+concluded_by request delivered (Ok n) m reply value =
     let j = judged request (take n reply) value in
     outcome (exchanged_with m (Judged j.answer) delivered n) j.memory
 
@@ -88,6 +87,6 @@ exchanged request m forward reverse lent =
     (pick (enough lent)
     (pick (is_allowed request)
     (carried request m forward reverse lent)
-    (outcome_of (refused_with not_allowed m) lent))
-    (outcome_of (refused_with short_memory m) lent))
-    (outcome_of (refused_with out_of_range m) lent)
+    (outcome_of (refused_with NotAllowed m) lent))
+    (outcome_of (refused_with ShortMemory m) lent))
+    (outcome_of (refused_with OutOfRange m) lent)

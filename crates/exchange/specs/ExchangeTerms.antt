@@ -1,10 +1,11 @@
 -- The terms in which demand 2 of the letter is stated, end to end: what an exchange of a request with a meter comes to.
-use Rattle.std.specs.Prelude.{ℕ, ◌≤◌, ◌<◌, ◌≡◌, List, [], ◌∷◌, ◌++◌, true, length}
+use Rattle.std.specs.Prelude.{ℕ, ◌≤◌, ◌<◌, ◌≡◌, List, [], ◌∷◌, ◌++◌, true, length, Ok, Some}
+use Rattle.frame.specs.declared.refusal.Refusal.TheVariants.{NotForThisMeter}
+use Rattle.reader_judgement.specs.declared.Reply.TheVariants.{Error, Value}
 use Rattle.frame.specs.Frame.{frame_for}
 use Rattle.laws.specs.Memory.{Bytes, over}
 use Rattle.item.specs.Table.{item_of}
 use Rattle.item.specs.declared.table.Item.{Item}
-use Rattle.item.specs.declared.table.Lookup.TheVariants.{Listed}
 use Rattle.energy.specs.Energies.{Rows}
 use Rattle.meter.specs.Meter.{AllKept, value_held, untouched}
 use Rattle.meter_decision.specs.Decision.{password_at}
@@ -20,7 +21,6 @@ use Rattle.reader_judgement.specs.Judging.{command_for}
 use Rattle.reader_judgement.specs.declared.Action.{Action}
 use Rattle.reader_judgement.specs.declared.Action.TheVariants.{ReadData, ReadAddress, WriteData}
 use Rattle.reader.specs.declared.Request.{Request}
-use Rattle.reader_judgement.specs.declared.Judgement.TheVariants.{Value, Error}
 use Rattle.exchange.specs.Exchange.{Memories, memories, ExchangeOutcome, outcome_of, exchanged_with, exchanged}
 use Rattle.exchange.specs.declared.ExchangeAnswer.{ExchangeAnswer}
 use Rattle.exchange.specs.declared.ExchangeAnswer.TheVariants.{Silent, Judged}
@@ -73,7 +73,7 @@ comes_to request after answer reply value lent =
 pub record ReadGives (request : Request) (m : Meter) (forward reverse : Rows) (lent : Memories) : Type 0 where
   pub outcome : let held = held_for request.action request.identifier m forward reverse in
       exchanged request m forward reverse lent
-      ≡ comes_to request (untouched m) (Judged (Value (length held))) (reply_frame request.action request.identifier m.address held) held lent
+      ≡ comes_to request (untouched m) (Judged (Ok (Value (length held)))) (reply_frame request.action request.identifier m.address held) held lent
   pub kept : AllKept m (untouched m)
   pub readings : let held = held_for request.action request.identifier m forward reverse in request.action ≡ ReadData
       → GivesReadings 0x00010000 forward request.identifier held × GivesReadings 0x00020000 reverse request.identifier held
@@ -88,12 +88,12 @@ pub record Authorised (request : Request) (m : Meter) : Type 0 where
 pub record WriteSets (request : Request) (m : Meter) (forward reverse : Rows) (lent : Memories) : Type 0 where
   pub after : Meter
   pub outcome : exchanged request m forward reverse lent
-      ≡ comes_to request after (Judged (Value 0)) (reply_frame request.action request.identifier m.address []) [] lent
+      ≡ comes_to request after (Judged (Ok (Value 0))) (reply_frame request.action request.identifier m.address []) [] lent
   pub item : Item
-  pub listed : item_of request.identifier ≡ Listed item
+  pub listed : item_of request.identifier ≡ Some item
   pub held : value_held item after forward reverse ≡ request_value request
   pub operator : after.operator ≡ request.operator
-  pub others : (identifier : ℕ) (other : Item) → item_of identifier ≡ Listed other → (identifier ≡ request.identifier → ⊥)
+  pub others : (identifier : ℕ) (other : Item) → item_of identifier ≡ Some other → (identifier ≡ request.identifier → ⊥)
       → value_held other after forward reverse ≡ value_held other m forward reverse
   pub address : after.address ≡ m.address
   pub key : after.key ≡ m.key
@@ -103,10 +103,10 @@ pub record WriteSets (request : Request) (m : Meter) (forward reverse : Rows) (l
 -- A write that fails a check is answered by its error byte, and leaves the meter untouched: everything that it holds is as it was.
 pub record WriteFails (request : Request) (m : Meter) (forward reverse : Rows) (lent : Memories) (byte : ℕ) : Type 0 where
   pub outcome : exchanged request m forward reverse lent
-      ≡ comes_to request (untouched m) (Judged (Error byte)) (frame_for m.address 0xD4 (byte ∷ [])) [] lent
+      ≡ comes_to request (untouched m) (Judged (Ok (Error byte))) (frame_for m.address 0xD4 (byte ∷ [])) [] lent
   pub kept : AllKept m (untouched m)
 
 -- A request to another address gets silence, and nothing moved.
 abbrev pub GetsSilence : Request → Meter → Rows → Rows → Memories → Type 0
 GetsSilence request m forward reverse lent =
-    exchanged request m forward reverse lent ≡ comes_to request m (Silent 3) [] [] lent
+    exchanged request m forward reverse lent ≡ comes_to request m (Silent NotForThisMeter) [] [] lent

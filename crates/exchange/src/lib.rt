@@ -8,23 +8,23 @@ ghost use Rattle.laws.specs.Memory.{outcome, over};
 ghost use Rattle.frame.specs.Frame.{most_frame};
 ghost use Rattle.exchange.specs.Exchange.{WakeUpFrame, WithinReply, refused_with, concluded, is_enough, outcome_of, memories, exchanged};
 
-use energy::Rows;
+use energy::Energies;
 use frame::MOST_FRAME;
-use frame::refusal::{NOT_ALLOWED, OUT_OF_RANGE, SHORT_MEMORY};
-use line::{Answer, Received, Receiver};
-use meter::{Answered, FrameAnswer, Meter};
-use reader::{Built, REQUEST_MEMORY, Request, VALUE_MEMORY};
-use reader_judgement::Judgement;
+use frame::refusal::Refusal;
+use line::{Delivered, Received, Receiver};
+use meter::{Answered, Meter};
+use reader::{REQUEST_MEMORY, Request, VALUE_MEMORY};
+use reader_judgement::Reply;
 
 // The answer to an exchange.
 #[derive(Clone, Copy)]
 pub enum ExchangeAnswer {
-    // A refusal, by document 01's number: nothing was sent, all as before.
-    Refused(u8),
-    // The meter gave no reply, by the number of its refusal, which is 3: meter and memory for reply and value as before.
-    Silent(u8),
+    // A refusal: nothing was sent, all as before.
+    Refused(Refusal),
+    // The meter gave no reply, by its refusal, whose number is 3: meter and memory for reply and value as before.
+    Silent(Refusal),
     // What the reader made of the reply.
-    Judged(Judgement),
+    Judged(Result<Reply, Refusal>),
 }
 
 // The meter after an exchange, with the answer.
@@ -38,7 +38,7 @@ pub struct Exchanged {
 }
 
 // A refusal: the meter as it was.
-fn refused(meter: Meter, refusal: u8) -> Exchanged
+fn refused(meter: Meter, refusal: Refusal) -> Exchanged
     ensures { result ≡ refused_with refusal meter }
 {
     Exchanged {
@@ -49,12 +49,12 @@ fn refused(meter: Meter, refusal: u8) -> Exchanged
     }
 }
 
-// Whether there is memory for the request, the receiver, the reply and the value.
+// Whether there is memory for the request, the receiver, the reply and the value: four lengths, as `exchange` is lent four memories.
+#[tactic(auto, unfolding(crate::specs::Exchange::is_enough))]
 fn is_enough(sent: usize, heard: usize, reply: usize, value: usize) -> bool
     ensures { result ≡ is_enough sent heard reply value }
 {
-    (REQUEST_MEMORY <= sent)
-        & ((MOST_FRAME <= heard) & ((MOST_FRAME <= reply) & (VALUE_MEMORY <= value)))
+    REQUEST_MEMORY <= sent && MOST_FRAME <= heard && MOST_FRAME <= reply && VALUE_MEMORY <= value
 }
 
 // A fresh receiver hears four FE and a frame: the last byte delivers the frame to the front of the output buffer.
@@ -63,28 +63,24 @@ fn hear(sent: &[u8], heard: &mut [u8]) -> usize
     requires most_frame_in_bounds { most_frame ≤ length heard.old }
     ensures { outcome result heard.new ≡ outcome (length (drop 4 sent.now)) (over (drop 4 sent.now) heard.old) }
 {
-    let fresh = Receiver::new();
     let mut received = Received {
-        receiver: fresh,
-        answer: Answer::Delivered {
+        receiver: Receiver::new(),
+        answer: Ok(Delivered {
             bytes: 0,
             frames: 0,
-        },
+        }),
     };
-    let mut i = 0;
-    while i < sent.len() {
-        let receiver = received.receiver;
-        received = receiver.byte(sent[i], heard);
-        i += 1;
+    for b in sent {
+        received = received.receiver.byte(*b, heard);
     }
-    let answer = received.answer;
-    match answer {
-        Answer::Refused(_) => 0,
-        Answer::Delivered { bytes, frames: _ } => bytes,
+    match received.answer {
+        Err(_) => 0,
+        Ok(delivered) => delivered.bytes,
     }
 }
 
 // The end of an exchange: the reader judges the meter's reply, if there is one.
+#[tactic(auto, unfolding(crate::specs::Exchange::concluded))]
 fn conclude(
     request: Request,
     answered: Answered,
@@ -96,15 +92,14 @@ fn conclude(
     ensures { outcome result value.new ≡ concluded request delivered answered reply.now value.old }
 {
     let meter = answered.meter;
-    let answer = answered.answer;
-    match answer {
-        FrameAnswer::Refused(refusal) => Exchanged {
+    match answered.answer {
+        Err(refusal) => Exchanged {
             meter,
             answer: ExchangeAnswer::Silent(refusal),
             delivered,
             replied: 0,
         },
-        FrameAnswer::Replied(length) => {
+        Ok(length) => {
             let judgement = request.judge(&reply[..length], value);
             Exchanged {
                 meter,
@@ -123,25 +118,24 @@ fn conclude(
 pub fn exchange(
     request: Request,
     meter: Meter,
-    forward: Rows,
-    reverse: Rows,
+    energies: Energies,
     sent: &mut [u8],
     heard: &mut [u8],
     reply: &mut [u8],
     value: &mut [u8],
 ) -> Exchanged
-    ensures { outcome_of result (memories sent.new heard.new reply.new value.new) ≡ exchanged request meter forward reverse (memories sent.old heard.old reply.old value.old) }
+    ensures { outcome_of result (memories sent.new heard.new reply.new value.new) ≡ exchanged request meter energies.forward energies.reverse (memories sent.old heard.old reply.old value.old) }
 {
-    if !meter.is_within_ranges(forward, reverse) {
-        return refused(meter, OUT_OF_RANGE);
+    if !meter.is_within_ranges(energies) {
+        return refused(meter, Refusal::OutOfRange);
     }
     if !is_enough(sent.len(), heard.len(), reply.len(), value.len()) {
-        return refused(meter, SHORT_MEMORY);
+        return refused(meter, Refusal::ShortMemory);
     }
-    let Built::Length(n) = request.build(sent) else {
-        return refused(meter, NOT_ALLOWED);
+    let Ok(n) = request.build(sent) else {
+        return refused(meter, Refusal::NotAllowed);
     };
     let delivered = hear(&sent[..n], heard);
-    let answered = meter.answer(forward, reverse, &heard[..delivered], reply);
+    let answered = meter.answer(energies, &heard[..delivered], reply);
     conclude(request, answered, delivered, reply, value)
 }

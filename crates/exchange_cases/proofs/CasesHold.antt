@@ -1,5 +1,8 @@
 -- Cases A to I hold: one proof over the table.
-use Rattle.std.specs.Prelude.{ℕ, ◌≤◌, ◌≡◌, refl, ◌↔◌, true, length, replicate}
+use Rattle.std.specs.Prelude.{ℕ, ◌≤◌, ◌≡◌, refl, ◌↔◌, true, length, replicate, Err, Ok, Result}
+use Rattle.frame.specs.declared.refusal.Refusal.{Refusal}
+use Rattle.reader_judgement.specs.declared.Reply.{Reply}
+use Rattle.reader_judgement.specs.declared.Reply.TheVariants.{Error, Value}
 use Rattle.std.proofs.Common.{ap, ◌∙◌, le-leb, arith}
 use mathlib.Core.List.{List, [], ◌∷◌, ◌++◌, append-nil, Memᴰ}
 use Rattle.std.proofs.Math.Seq.{drop-nil}
@@ -44,16 +47,12 @@ use Rattle.meter.proofs.AnswerLaws.{answered-treated, not-replied}
 use Rattle.meter.specs.Answer.{Treatment, silent, replies, reply_data, meter_after, carried_out, treated, answered_with, delivered, answered}
 use Rattle.meter.specs.declared.Meter.{Meter}
 use Rattle.meter.specs.declared.Answered.{Answered}
-use Rattle.meter.specs.declared.FrameAnswer.TheVariants.{Replied}
 use Rattle.reader.specs.Allowed.{is_allowed}
 use Rattle.reader_allowed.specs.Allowed.{address_allowed, content_checks, value_conditions, conditions_of, admission}
 use Rattle.reader.specs.Building.{sent_data, request_frame, request_bytes, built}
 use Rattle.reader.specs.Judging.{is_judged, is_answer, call_checks, frame_checks, judgement_of, written, judged}
 use Rattle.reader_judgement.specs.Judging.{is_normal, is_error, answers_from, error_checks, normal_checks, reply_value, data_judgement}
 use Rattle.reader.specs.declared.Request.{Request}
-use Rattle.reader.specs.declared.Built.TheVariants.{Length}
-use Rattle.reader_judgement.specs.declared.Judgement.{Judgement}
-use Rattle.reader_judgement.specs.declared.Judgement.TheVariants.{Value, Error, Refused}
 use Rattle.exchange_cases.specs.Cases.{Case, line, goes_on, request, answer, judgement, table, at}
 
 -- What a line comes to by computation, as it stands and with a silence behind it.
@@ -69,7 +68,7 @@ Computes (request asked bytes) = (is_allowed asked ≡ true) × (request_bytes a
 Computes (answer bytes m forward reply after) =
     (within_ranges m forward zero_rows ≡ true)
     × (exactly_one bytes ≡ true)
-    × (delivered (treated bytes m forward zero_rows) m [] ≡ outcome (answered_with after (Replied (length reply))) reply)
+    × (delivered (treated bytes m forward zero_rows) m [] ≡ outcome (answered_with after (Ok (length reply))) reply)
 Computes (judgement asked bytes says value) =
     (judgement_of asked bytes (replicate 196 0) ≡ says) × (written says (reply_value asked.action (data_of bytes)) [] ≡ value)
 
@@ -91,15 +90,15 @@ pub record LineCase (symbols : List Symbol) (frames : List Found) (kept : List �
 
 -- A request: whatever memory of at least 66 bytes is lent, these bytes are written over its front.
 pub record RequestCase (asked : Request) (bytes : List ℕ) : Type 1 where
-  pub sent : (m : List ℕ) → 66 ≤ length m → built asked m ≡ outcome (Length (length bytes)) (over bytes m)
+  pub sent : (m : List ℕ) → 66 ≤ length m → built asked m ≡ outcome (Ok (length bytes)) (over bytes m)
 
 -- A frame: whatever memory of at least 212 bytes is lent, this reply is written over its front, and this is the meter afterwards.
 pub record AnswerCase (bytes : List ℕ) (m : Meter) (forward : Rows) (reply : List ℕ) (after : Meter) : Type 1 where
   pub replied : (memory : List ℕ) → 212 ≤ length memory
-      → answered bytes m forward zero_rows memory ≡ outcome (answered_with after (Replied (length reply))) (over reply memory)
+      → answered bytes m forward zero_rows memory ≡ outcome (answered_with after (Ok (length reply))) (over reply memory)
 
 -- A reply: whatever memory of at least 196 bytes is lent, the reader says this, and this value is written over its front.
-pub record JudgementCase (asked : Request) (bytes : List ℕ) (says : Judgement) (value : List ℕ) : Type 1 where
+pub record JudgementCase (asked : Request) (bytes : List ℕ) (says : Result Reply Refusal) (value : List ℕ) : Type 1 where
   pub judges : (m : List ℕ) → 196 ≤ length m → judged asked bytes m ≡ outcome says (over value m)
 
 -- What each row says.
@@ -115,8 +114,8 @@ AllSay [] = Unit
 AllSay (c ∷ cases) = Says c × AllSay cases
 
 -- A reply that is delivered into no memory at all is delivered over the front of any.
-delivered-over : (t : Treatment) (m after : Meter) (n : ℕ) (reply memory : List ℕ) → delivered t m [] ≡ outcome (answered_with after (Replied n)) reply
-    → delivered t m memory ≡ outcome (answered_with after (Replied n)) (over reply memory)
+delivered-over : (t : Treatment) (m after : Meter) (n : ℕ) (reply memory : List ℕ) → delivered t m [] ≡ outcome (answered_with after (Ok n)) reply
+    → delivered t m memory ≡ outcome (answered_with after (Ok n)) (over reply memory)
 unfolding delivered
 delivered-over (silent k) m after n reply memory e =
     absurd (not-replied (ap (λ (o : Outcome Answered). o.answer.answer) e))
@@ -130,10 +129,10 @@ unfolding judgement_of call_checks
 same-judgement asked bytes m m' h k = rw (le-leb 196 (length m) h, le-leb 196 (length m') k)
 
 -- What is written into no memory at all is written over the front of any.
-written_over : (says : Judgement) (given value m : List ℕ) → written says given [] ≡ value → written says given m ≡ over value m
-written_over (Value n) given value m e = rw (← rw (drop-nil, append-nil) at e)
-written_over (Error b) given value m e = rw (← e)
-written_over (Refused n) given value m e = rw (← e)
+written_over : (says : Result Reply Refusal) (given value m : List ℕ) → written says given [] ≡ value → written says given m ≡ over value m
+written_over (Ok (Value n)) given value m e = rw (← rw (drop-nil, append-nil) at e)
+written_over (Ok (Error b)) given value m e = rw (← e)
+written_over (Err n) given value m e = rw (← e)
 
 -- A line that computes is so.
 line_computes_says : (symbols : List Symbol) (frames : List Found) (kept : List ℕ) → LineComputes symbols frames kept → LineCase symbols frames kept

@@ -1,5 +1,8 @@
 -- Document 01, "Frames to prove": cases A to I as one table.
-use Rattle.std.specs.Prelude.{ℕ, true, take, replicate}
+use Rattle.std.specs.Prelude.{ℕ, true, take, replicate, Ok, Result}
+use Rattle.frame.specs.declared.refusal.Refusal.{Refusal}
+use Rattle.reader_judgement.specs.declared.Reply.{Reply}
+use Rattle.reader_judgement.specs.declared.Reply.TheVariants.{Error, Value}
 use mathlib.Core.List.{List, [], ◌∷◌, ◌++◌, map}
 use Rattle.frame.specs.CaseFrames.{one, case_a, case_b, case_c, case_d, case_e, case_i}
 use Rattle.energy.specs.Reading.{zero_reading, reading_of}
@@ -12,8 +15,6 @@ use Rattle.reader.specs.Building.{wake_up}
 use Rattle.reader_judgement.specs.declared.Action.{Action}
 use Rattle.reader_judgement.specs.declared.Action.TheVariants.{ReadData, ReadAddress, WriteData}
 use Rattle.reader.specs.declared.Request.{Request}
-use Rattle.reader_judgement.specs.declared.Judgement.{Judgement}
-use Rattle.reader_judgement.specs.declared.Judgement.TheVariants.{Value, Error}
 
 -- A row of the table.
 pub data Case : Type 0 where
@@ -26,7 +27,7 @@ pub data Case : Type 0 where
   -- A frame put to a meter with these forward readings: the reply, and the meter afterwards.
   answer : List ℕ → Meter → Rows → List ℕ → Meter → Case
   -- A request and a reply to it: what the reader makes of it, and the value given.
-  judgement : Request → List ℕ → Judgement → List ℕ → Case
+  judgement : Request → List ℕ → Result Reply Refusal → List ℕ → Case
 
 -- A frame at a place.
 abbrev pub at : ℕ → List ℕ → Found
@@ -98,20 +99,20 @@ table =
     ∷ line (map byte (wake_up ++ case_a)) (at 4 case_a ∷ []) []
     -- B: the reply for 123456.78.
     ∷ answer case_a meter total12345678 case_b meter
-    ∷ judgement read_total case_b (Value 4) (0x78 ∷ 0x56 ∷ 0x34 ∷ 0x12 ∷ [])
+    ∷ judgement read_total case_b (Ok (Value 4)) (0x78 ∷ 0x56 ∷ 0x34 ∷ 0x12 ∷ [])
     -- C: the request for the address, and the reply.
     ∷ request read_address (wake_up ++ case_c)
     ∷ answer case_c meter total12345678 address_reply meter
-    ∷ judgement read_address address_reply (Value 6) one
+    ∷ judgement read_address address_reply (Ok (Value 6)) one
     -- D: unknown identifier.
     ∷ answer unknown_read meter total12345678 case_d meter
-    ∷ judgement read_total case_d (Error 0x02) []
+    ∷ judgement read_total case_d (Ok (Error 0x02)) []
     -- E: period to 30, level 04, zero password and operator; with the key on, the reply; with the key off, error 04.
     ∷ request write_period (wake_up ++ case_e)
     ∷ answer case_e key_on total12345678 write_reply period_set
-    ∷ judgement write_period write_reply (Value 0) []
+    ∷ judgement write_period write_reply (Ok (Value 0)) []
     ∷ answer case_e meter total12345678 error_reply meter
-    ∷ judgement write_period error_reply (Error 0x04) []
+    ∷ judgement write_period error_reply (Ok (Error 0x04)) []
     -- F: a lone 68 and then A: A is taken, at place 1.
     ∷ line (map byte (0x68 ∷ case_a)) (at 1 case_a ∷ []) []
     -- G: A with a silence before its last byte: none, neither at the silence nor with the last byte, 16, behind it.

@@ -6,16 +6,8 @@ ghost use Rattle.frame.specs.EndToEnd.{next_end};
 pub fn next_end(bytes: &[u8], at: usize) -> usize
     ensures { result ≡ next_end bytes.now at }
 {
-    let all = bytes.len();
-    if all < 12 {
-        return all;
+    match bytes.get(at..) {
+        Some(rest) if 10 <= rest.len() => bytes.len().min(at + 12 + rest[9] as usize),
+        _ => bytes.len(),
     }
-    if all - 12 < at {
-        return all;
-    }
-    let end = at + 12 + bytes[at + 9] as usize;
-    if all < end {
-        return all;
-    }
-    end
 }

@@ -5,11 +5,9 @@
 pub mod delivery;
 pub mod refusal;
 
-ghost use Rattle.std.specs.Prelude.{◌≡◌};
-ghost use Rattle.frame.specs.Frame.{checksum_of};
+ghost use Rattle.std.specs.Prelude.{◌≡◌, ◌+◌, ◌%◌};
+ghost use Rattle.frame.specs.Frame.{total, checksum_of};
 ghost use Rattle.frame.specs.Recognition.{recognised, recognised_body, exactly_one};
-
-use std::num::wrapping_add_u8;
 
 // How many bytes the longest frame has.
 pub const MOST_FRAME: usize = 212;
@@ -25,45 +23,29 @@ pub enum Recognised {
     Neither,
 }
 
-// The sum of the bytes, wrapping at 256: four bytes a turn, with a sum for each of the four places, so that a processor that
-// can adds all four at once; then the odd ones, at most three.
+// A sum gone on with the sum of the bytes, wrapping at 256.
+fn gone_on(sum: u8, bytes: &[u8]) -> u8
+    ensures { result ≡ (sum + total bytes.now) % 256 }
+{
+    bytes.iter().fold(sum, |sum, b| sum.wrapping_add(*b))
+}
+
+// The sum of the bytes, wrapping at 256: four bytes a turn, as document 02, W2, asks, then the odd ones, at most three.
 pub fn checksum(bytes: &[u8]) -> u8
     ensures { result ≡ checksum_of bytes.now }
 {
-    let n = bytes.len();
-    let mut first: u8 = 0;
-    let mut second: u8 = 0;
-    let mut third: u8 = 0;
-    let mut fourth: u8 = 0;
-    let mut i = 0;
-    while 4 <= n - i {
-        first = wrapping_add_u8(first, bytes[i]);
-        second = wrapping_add_u8(second, bytes[i + 1]);
-        third = wrapping_add_u8(third, bytes[i + 2]);
-        fourth = wrapping_add_u8(fourth, bytes[i + 3]);
-        i += 4;
+    let fours = bytes.chunks_exact(4);
+    let odd = fours.remainder();
+    let mut sum = 0;
+    for four in fours {
+        sum = gone_on(sum, four);
     }
-    let turns = wrapping_add_u8(
-        wrapping_add_u8(first, second),
-        wrapping_add_u8(third, fourth),
-    );
-    let odd = n - i;
-    if odd == 0 {
-        return turns;
-    }
-    let with_one = wrapping_add_u8(turns, bytes[i]);
-    if odd == 1 {
-        return with_one;
-    }
-    let with_two = wrapping_add_u8(with_one, bytes[i + 1]);
-    if odd == 2 {
-        return with_two;
-    }
-    wrapping_add_u8(with_two, bytes[i + 2])
+    gone_on(sum, odd)
 }
 
 // What the bytes begin with, given up at the first byte that no frame has there. Where a last byte is there it is looked
 // at before the checksum is summed; either ends the place.
+#[tactic(auto, unfolding(crate::specs::Recognition::recognised))]
 pub fn recognise(bytes: &[u8]) -> Recognised
     ensures { result ≡ recognised bytes.now }
 {
@@ -84,6 +66,7 @@ pub fn recognise(bytes: &[u8]) -> Recognised
 }
 
 // The rest of `recognise`, from the data length on.
+#[tactic(auto, unfolding(crate::specs::Recognition::recognised_body, crate::specs::Recognition::recognised_end, crate::specs::Frame::length_of))]
 fn recognise_body(bytes: &[u8]) -> Recognised
     ensures { result ≡ recognised_body bytes.now }
 {
@@ -116,13 +99,9 @@ fn recognise_body(bytes: &[u8]) -> Recognised
 }
 
 // Whether the bytes are exactly one frame.
+#[tactic(auto, unfolding(crate::specs::Recognition::exactly_one, crate::specs::Recognition::is_all))]
 pub fn is_frame(bytes: &[u8]) -> bool
     ensures { result ≡ exactly_one bytes.now }
 {
-    let found = recognise(bytes);
-    match found {
-        Recognised::Whole(n) => n == bytes.len(),
-        Recognised::Open => false,
-        Recognised::Neither => false,
-    }
+    matches!(recognise(bytes), Recognised::Whole(n) if n == bytes.len())
 }

@@ -1,24 +1,51 @@
-// Document 01's table of refusals, with those of document 02: the numbers that answers carry.
+// Document 01's table of refusals, with those of document 02.
+ghost use Rattle.std.specs.Prelude.{◌≡◌};
+ghost use Rattle.frame.specs.Refusals.{number_of};
 
-// The lent memory is too short; nothing changes.
-pub const SHORT_MEMORY: u8 = 1;
-// The bytes are not exactly one frame; nothing changes.
-pub const NOT_ONE_FRAME: u8 = 2;
-// A frame that is not for this meter: silence, and nothing changes.
-pub const NOT_FOR_THIS_METER: u8 = 3;
-// A frame that is answered by silence by rule; nothing changes.
-pub const SILENT_BY_RULE: u8 = 4;
-// A request that is not allowed; nothing changes.
-pub const NOT_ALLOWED: u8 = 5;
-// A frame that is not an answer to this request; nothing changes.
-pub const NOT_AN_ANSWER: u8 = 6;
-// An answer that is malformed; nothing changes.
-pub const MALFORMED: u8 = 7;
-// A bad address for a fresh meter, or a bad direction or rate; nothing changes.
-pub const BAD_ARGUMENT: u8 = 8;
-// A trace's record of an unknown kind, or with a field out of its range; nothing changes.
-pub const BAD_RECORD: u8 = 9;
-// A trace that ends inside a record; nothing changes.
-pub const CUT_OFF: u8 = 10;
-// A receiver or a meter is outside its ranges; nothing changes.
-pub const OUT_OF_RANGE: u8 = 16;
+// Why a call is refused. A refusal changes nothing.
+#[derive(Clone, Copy, PartialEq, Eq)]
+pub enum Refusal {
+    // The lent memory is too short.
+    ShortMemory,
+    // The bytes are not exactly one frame.
+    NotOneFrame,
+    // A frame that is not for this meter: silence.
+    NotForThisMeter,
+    // A frame that is answered by silence by rule.
+    SilentByRule,
+    // A request that is not allowed.
+    NotAllowed,
+    // A frame that is not an answer to this request.
+    NotAnAnswer,
+    // An answer that is malformed.
+    Malformed,
+    // A bad address for a fresh meter, or a bad direction or rate.
+    BadArgument,
+    // A trace's record of an unknown kind, or with a field out of its range.
+    BadRecord,
+    // A trace that ends inside a record.
+    CutOff,
+    // A receiver or a meter is outside its ranges.
+    OutOfRange,
+}
+
+impl Refusal {
+    // The number that the papers give a refusal.
+    pub fn number(self) -> u8
+        ensures { result ≡ number_of self }
+    {
+        match self {
+            Refusal::ShortMemory => 1,
+            Refusal::NotOneFrame => 2,
+            Refusal::NotForThisMeter => 3,
+            Refusal::SilentByRule => 4,
+            Refusal::NotAllowed => 5,
+            Refusal::NotAnAnswer => 6,
+            Refusal::Malformed => 7,
+            Refusal::BadArgument => 8,
+            Refusal::BadRecord => 9,
+            Refusal::CutOff => 10,
+            Refusal::OutOfRange => 16,
+        }
+    }
+}

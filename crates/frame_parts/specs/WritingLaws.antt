@@ -1,5 +1,7 @@
 -- Laws of the writing of a frame.
-use Rattle.std.specs.Prelude.{◌≡◌, ℕ, ◌+◌, ◌-◌, ◌<◌, ◌≤◌, List, [], ◌∷◌, ◌++◌, map, length, take, drop, refl}
+use Rattle.std.specs.Prelude.{◌≡◌, ℕ, ◌+◌, ◌-◌, ◌<◌, ◌≤◌, Bool, true, false, List, [], ◌∷◌, ◌++◌, map, length, take, drop, refl, Result, Ok, Err}
+use Rattle.frame_parts.specs.declared.WriteError.{WriteError}
+use Rattle.frame_parts.specs.declared.WriteError.TheVariants.{TooLittleMemory, TooMuchData}
 use Rattle.std.proofs.Common.{ap, sym, ◌∙◌, append_assoc, length-append, take_at, take-add, drop_at, drop-drop, length-take-le}
 use native.Mathlib.Omega.{arith}
 use Rattle.std.proofs.lemmas.List.{length-map}
@@ -9,9 +11,9 @@ use Rattle.frame.proofs.FrameLaws.{frame-length, frame-for-length}
 use Rattle.laws.specs.Memory.{outcome, over}
 use Rattle.laws.specs.MemoryLaws.{over-length, over-itself, over-over, copied}
 use Rattle.laws.specs.Part.{part}
+use Rattle.laws.specs.Test.{pick}
 use Rattle.laws.specs.PartLaws.{part_length, copied_behind}
 use Rattle.frame_parts.specs.Writing.{writing, writing_in_place}
-use Rattle.frame_parts.specs.declared.Written.TheVariants.{Length, TooMuchData, TooLittleMemory}
 
 -- With head and end written around a field that stands at its place, the frame stands at the front.
 pub around : (address : List ℕ) (control n : ℕ) (m : List ℕ) {o : List ℕ} → length address ≡ 6 → 12 + n ≤ length m
@@ -83,7 +85,7 @@ around-field address control n payload m {o} six e room p q =
 
 -- A frame for which there is room is written.
 pub frame-written : (address : List ℕ) (control : ℕ) (payload m : List ℕ) → length payload ≤ 200 → 12 + length payload ≤ length m
-    → writing address control payload m ≡ outcome (Length (12 + length payload)) (over (frame_for address control payload) m)
+    → writing address control payload m ≡ outcome (Ok (12 + length payload)) (over (frame_for address control payload) m)
 unfolding writing
 frame-written address control payload m few room = rw (le-leb (length payload) 200 few, le-leb (12 + length payload) (length m) room)
 
@@ -91,7 +93,7 @@ frame-written address control payload m few room = rw (le-leb (length payload) 2
 module _ (address : List ℕ) (control : ℕ) (payload m : List ℕ) (six : length address ≡ 6) (few : length payload ≤ 200)
     (room : 12 + length payload ≤ length m) where
   pub written_in_place : writing_in_place address control (length payload) (over (take 10 m ++ payload) m)
-      ≡ outcome (Length (12 + length payload)) (over (frame_for address control payload) m)
+      ≡ outcome (Ok (12 + length payload)) (over (frame_for address control payload) m)
   unfolding writing_in_place
   written_in_place =
       let ten : 10 + length payload ≤ length m = omega arith in
@@ -109,10 +111,18 @@ module _ (address : List ℕ) (control : ℕ) (payload m : List ℕ) (six : leng
 
 -- More than 200 data, and then too little memory, are refused, and nothing is written.
 module _ (address : List ℕ) (control count : ℕ) (m : List ℕ) where
-  pub too_much_in_place : 200 < count → writing_in_place address control count m ≡ outcome TooMuchData m
+  pub too_much_in_place : 200 < count → writing_in_place address control count m ≡ outcome (Err TooMuchData) m
   unfolding writing_in_place
   too_much_in_place h = rw (lt-leb count 200 h)
 
-  pub too_little_in_place : count ≤ 200 → length m < 12 + count → writing_in_place address control count m ≡ outcome TooLittleMemory m
+  pub too_little_in_place : count ≤ 200 → length m < 12 + count → writing_in_place address control count m ≡ outcome (Err TooLittleMemory) m
   unfolding writing_in_place
   too_little_in_place h k = rw (le-leb count 200 h, lt-leb (12 + count) (length m) k)
+
+-- A length that the two tests of a frame's length answer passed both.
+pub length_allowed : (few room : Bool) (n : ℕ) {r : ℕ}
+    → (let answer : Result ℕ WriteError = Ok r in answer ≡ pick few (pick room (Ok n) (Err TooLittleMemory)) (Err TooMuchData))
+    → (few ≡ true) × (room ≡ true) × (r ≡ n)
+length_allowed true true n e = (refl, refl, cc)
+length_allowed true false n e = cc
+length_allowed false room n e = cc

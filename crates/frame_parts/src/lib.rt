@@ -2,18 +2,18 @@
 // they are taken off.
 #![tactic(auto)]
 
-ghost use Rattle.std.specs.Prelude.{◌≡◌, ◌+◌, ◌≤◌, [], ◌∷◌, ◌++◌, map, length, take};
+ghost use Rattle.std.specs.Prelude.{◌≡◌, ℕ, ◌+◌, ◌≤◌, [], ◌∷◌, ◌++◌, map, length, take, nat_le};
 ghost use Rattle.laws.specs.Memory.{outcome, over};
 ghost use Rattle.laws.specs.Part.{part};
+ghost use Rattle.laws.specs.Test.{pick};
 ghost use Rattle.frame.specs.Frame.{checksum_of, masked, unmasked, frame_of};
 ghost use Rattle.frame_parts.specs.Parts.{address_field, data_unmasked};
+ghost use Rattle.frame_parts.specs.declared.WriteError.TheVariants.{TooMuchData, TooLittleMemory};
 ghost use Rattle.frame_parts.specs.Writing.{writing, writing_in_place};
 
-// The answer to the writing of a frame; only `Length` leaves bytes in the output buffer.
+// Why no frame is written; the output buffer stays as it was.
 #[derive(Clone, Copy)]
-pub enum Written {
-    // The frame's length.
-    Length(usize),
+pub enum WriteError {
     // More than 200 data bytes.
     TooMuchData,
     // An output buffer shorter than the frame.
@@ -25,7 +25,7 @@ pub enum Written {
 fn mask(b: u8) -> u8
     ensures { result ≡ masked b }
 {
-    std::num::wrapping_add_u8(b, 0x33)
+    b.wrapping_add(0x33)
 }
 
 // A data byte unmasked: with 33H taken off, wrapping at 256.
@@ -33,28 +33,29 @@ fn mask(b: u8) -> u8
 pub fn unmask(b: u8) -> u8
     ensures { result ≡ unmasked b }
 {
-    std::num::wrapping_sub_u8(b, 0x33)
+    b.wrapping_sub(0x33)
 }
 
 // The address field of a frame; zeros where the bytes are too few to have one.
 pub fn address_of(bytes: &[u8]) -> [u8; 6]
     ensures { result ≡ address_field bytes.now }
 {
-    if bytes.len() < 7 {
-        return [0u8; 6];
+    let mut address = [0u8; 6];
+    if let Some(field) = bytes.get(1..7) {
+        address.copy_from_slice(field);
     }
-    [bytes[1], bytes[2], bytes[3], bytes[4], bytes[5], bytes[6]]
+    address
 }
 
-// The bytes of a data field, unmasked, at the front of the memory.
-fn unmask_field(field: &[u8], out: &mut [u8])
-    requires { length field.now ≤ length out.old }
-    ensures { out.new ≡ over (map unmasked field.now) out.old }
+// The bytes of a data field, each through a function, at the front of the memory.
+fn write_field<F: Fn(u8) -> u8>(field: &[u8], through: F, out: &mut [u8])
+    requires room { length field.now ≤ length out.old }
+    requires callable { F.IsAlwaysCallable through }
+    ensures { (f : ℕ → ℕ) → ((b r : ℕ) → F.post through b r → r ≡ f b) → out.new ≡ over (map f field.now) out.old }
 {
-    let mut i = 0;
-    while i < field.len() {
-        out[i] = unmask(field[i]);
-        i += 1;
+    // By place, since no proof knows behind a loop what was written through a zip with `iter_mut`.
+    for (i, b) in field.iter().enumerate() {
+        out[i] = through(*b);
     }
 }
 
@@ -73,7 +74,7 @@ pub fn unmask_data(bytes: &[u8], payload: &mut [u8; 200]) -> usize
     if bytes.len() < 10 + length {
         return 0;
     }
-    unmask_field(&bytes[10..10 + length], payload);
+    write_field(&bytes[10..10 + length], unmask, payload);
     length
 }
 
@@ -83,36 +84,18 @@ fn write_head(address: [u8; 6], control: u8, data_length: u8, out: &mut [u8])
     ensures { out.new ≡ over (0x68 ∷ (address ++ (0x68 ∷ control ∷ data_length ∷ []))) out.old }
 {
     out[0] = 0x68;
-    let mut i = 0;
-    while i < 6 {
-        out[1 + i] = address[i];
-        i += 1;
-    }
+    out[1..7].copy_from_slice(&address);
     out[7] = 0x68;
     out[8] = control;
     out[9] = data_length;
-}
-
-// The data, masked, at the front of the output buffer.
-fn write_field(payload: &[u8], out: &mut [u8])
-    requires { length payload.now ≤ length out.old }
-    ensures { out.new ≡ over (map masked payload.now) out.old }
-{
-    let mut i = 0;
-    while i < payload.len() {
-        out[i] = mask(payload[i]);
-        i += 1;
-    }
 }
 
 // Masks the data where they stand.
 fn mask_field(field: &mut [u8])
     ensures { field.new ≡ map masked field.old }
 {
-    let mut i = 0;
-    while i < field.len() {
-        field[i] = mask(field[i]);
-        i += 1;
+    for b in field {
+        *b = mask(*b);
     }
 }
 
@@ -135,34 +118,48 @@ fn write_around(address: [u8; 6], control: u8, count: usize, out: &mut [u8])
     write_end(10 + count, out);
 }
 
+// The length of a frame of so many data bytes, which is at most the length of the output buffer; else why it is not written.
+fn frame_length(count: usize, room: usize) -> Result<usize, WriteError>
+    ensures { result ≡ pick (nat_le count 200) (pick (nat_le (12 + count) room) (Ok (12 + count)) (Err TooLittleMemory)) (Err TooMuchData) }
+{
+    if 200 < count {
+        return Err(WriteError::TooMuchData);
+    }
+    if room < 12 + count {
+        return Err(WriteError::TooLittleMemory);
+    }
+    Ok(12 + count)
+}
+
 // Writes the frame of an address, a control code and data, masked here, to the front of the output buffer.
-pub fn write_frame(address: [u8; 6], control: u8, payload: &[u8], out: &mut [u8]) -> Written
+#[tactic(auto, unfolding(crate::specs::Writing::writing))]
+pub fn write_frame(
+    address: [u8; 6],
+    control: u8,
+    payload: &[u8],
+    out: &mut [u8],
+) -> Result<usize, WriteError>
     ensures { outcome result out.new ≡ writing address control payload.now out.old }
 {
-    let n = payload.len();
-    if 200 < n {
-        return Written::TooMuchData;
-    }
-    if out.len() < 12 + n {
-        return Written::TooLittleMemory;
-    }
-    write_field(payload, &mut out[10..]);
-    write_around(address, control, n, out);
-    Written::Length(12 + n)
+    let length = frame_length(payload.len(), out.len())?;
+    write_field(payload, mask, &mut out[10..]);
+    write_around(address, control, payload.len(), out);
+    Ok(length)
 }
 
 // Writes the frame of an address, a control code and the `count` data bytes that stand, unmasked, at their place in the output buffer,
-// from byte 10 on: they are masked where they stand.
-pub fn write_frame_in_place(address: [u8; 6], control: u8, count: usize, out: &mut [u8]) -> Written
+// from byte 10 on: they are masked where they stand. Answers as `write_frame` does.
+#[tactic(auto, unfolding(crate::specs::Writing::writing_in_place))]
+pub fn write_frame_in_place(
+    address: [u8; 6],
+    control: u8,
+    count: usize,
+    out: &mut [u8],
+) -> Result<usize, WriteError>
     ensures { outcome result out.new ≡ writing_in_place address control count out.old }
 {
-    if 200 < count {
-        return Written::TooMuchData;
-    }
-    if out.len() < 12 + count {
-        return Written::TooLittleMemory;
-    }
+    let length = frame_length(count, out.len())?;
     mask_field(&mut out[10..10 + count]);
     write_around(address, control, count, out);
-    Written::Length(12 + count)
+    Ok(length)
 }

@@ -1,6 +1,6 @@
 -- A value may be written exactly where the item is writable, the length is the item's, every half byte is 0 to 9 and document 01's ranges
 -- hold.
-use Rattle.std.specs.Prelude.{ℕ, ◌≤◌, ◌≡◌, List, true, false, ◌&&◌, ◌||◌, ◌↔◌, length, eqb}
+use Rattle.std.specs.Prelude.{ℕ, ◌≤◌, ◌≡◌, List, true, false, ◌&&◌, ◌||◌, ◌↔◌, length, eqb, None, Ok, Option, Some}
 use Rattle.std.proofs.Math.Path.{refl}
 use Rattle.std.proofs.Common.{ap, arith, eqb-true, eq-eqb}
 use Rattle.std.proofs.Math.Bool.{Bool, or-true, and-eq-true_iff}
@@ -11,12 +11,9 @@ use Rattle.item_range.proofs.RangeLaws.{within-iff}
 use Rattle.item_decimal.specs.Decimal.{Decimal, first_bad}
 use Rattle.item_decimal.proofs.DecimalLaws.{scan-decimal, decimal-scan}
 use Rattle.item.specs.Content.{digits_at, three_within, date_in_range, time_in_range, minutes_in_range, not_set, settlement_day_in_range, in_range, after_scan, content_of, content_is_allowed}
-use Rattle.item_decimal.specs.declared.Scan.{Scan}
-use Rattle.item_decimal.specs.declared.Scan.TheVariants.{AllDecimal, BadAt}
 use Rattle.item.specs.declared.table.Kind.{Kind}
 use Rattle.item.specs.declared.table.Kind.TheVariants.{Energy, Date, Time, DemandPeriod, Slip, Address, MeterNumber, SettlementDay}
 use Rattle.item.specs.declared.table.Item.{Item}
-use Rattle.item.specs.declared.content.Content.TheVariants.{Allowed}
 
 -- WW 00..06, DD 01..31, MM 01..12.
 pub record DateRange (value : List ℕ) : Type 0 where
@@ -96,22 +93,22 @@ module _ (value : List ℕ) where
   in_range_lem (SettlementDay n) = settlement_day_range
 
 -- Allowed is what the scan finds nothing in and the ranges hold of.
-pub after-scan : (scan : Scan) (ranges : Bool) → after_scan scan ranges ≡ Allowed → (scan ≡ AllDecimal) × (ranges ≡ true)
-after-scan AllDecimal true h = (refl, refl)
-after-scan AllDecimal false h = (refl, ap content_is_allowed h)
-after-scan (BadAt i) ranges h = absurd (false≢true (ap content_is_allowed h))
+pub after-scan : (scan : Option ℕ) (ranges : Bool) → after_scan scan ranges ≡ Ok tt → (scan ≡ None) × (ranges ≡ true)
+after-scan None true h = (refl, refl)
+after-scan None false h = (refl, ap content_is_allowed h)
+after-scan (Some i) ranges h = absurd (false≢true (ap content_is_allowed h))
 
 pub content-allowed : (item : Item) (value : List ℕ)
-    → content_of item value ≡ Allowed ↔ ((item.writable ≡ true) × (length value ≡ item.length) × Decimal value × Range item.kind value)
+    → content_of item value ≡ Ok tt ↔ ((item.writable ≡ true) × (length value ≡ item.length) × Decimal value × Range item.kind value)
 unfolding content_of
 content-allowed item value = (from, to)
   where
-    from : content_of item value ≡ Allowed → (item.writable ≡ true) × (length value ≡ item.length) × Decimal value × Range item.kind value
+    from : content_of item value ≡ Ok tt → (item.writable ≡ true) × (length value ≡ item.length) × Decimal value × Range item.kind value
     from h =
         let writable = picked_first item.writable (ap content_is_allowed) h in
         let long = picked_first (eqb (length value) item.length) (ap content_is_allowed) writable.1 in
         let both = after-scan (first_bad value) (in_range item.kind value) long.1 in
         (writable.0, eqb-true _ _ long.0, scan-decimal value both.0, (in_range_lem value item.kind).0 both.1)
 
-    to : (item.writable ≡ true) × (length value ≡ item.length) × Decimal value × Range item.kind value → content_of item value ≡ Allowed
+    to : (item.writable ≡ true) × (length value ≡ item.length) × Decimal value × Range item.kind value → content_of item value ≡ Ok tt
     to h = rw (h.0, eq-eqb _ _ h.1, decimal-scan value h.2, (in_range_lem value item.kind).1 h.3)

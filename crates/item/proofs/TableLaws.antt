@@ -1,5 +1,5 @@
 -- What holds of every row of the table of identifiers.
-use Rattle.std.specs.Prelude.{ℕ, ◌+◌, ◌*◌, ◌/◌, ◌≤◌, ◌≡◌, refl, List, [], ◌∷◌, Bool, true, false, leb, eqb}
+use Rattle.std.specs.Prelude.{ℕ, ◌+◌, ◌*◌, ◌/◌, ◌≤◌, ◌≡◌, refl, List, [], ◌∷◌, Bool, true, false, leb, eqb, None, Option, Some}
 use Rattle.std.proofs.Common.{sym, ap, ◌∙◌, arith}
 use borrow.Author.Tests.{leb-true, eqb-true}
 use Rattle.laws.specs.Test.{pick}
@@ -8,8 +8,6 @@ use Rattle.item.specs.Table.{item_of, energy_item, readings, read_only, Row, oth
 use Rattle.item.specs.declared.table.Kind.{Kind}
 use Rattle.item.specs.declared.table.Kind.TheVariants.{Energy, Date, Time, DemandPeriod, Slip, Address, MeterNumber, SettlementDay}
 use Rattle.item.specs.declared.table.Item.{Item}
-use Rattle.item.specs.declared.table.Lookup.{Lookup}
-use Rattle.item.specs.declared.table.Lookup.TheVariants.{Listed, NotListed}
 
 -- The readings of an energy item are within five columns and thirteen rows of one of two directions.
 pub record Within (direction rate rates row rows : ℕ) : Type 0 where
@@ -29,9 +27,9 @@ pub record Rule (P : ℕ → Item → Type 0) : Type 0 where
   pub of_rows : InRows P other_rows
 
 -- What is shown of identifiers and their items holds of a lookup, if it lists one.
-abbrev pub OfLookup : (ℕ → Item → Type 0) → ℕ → Lookup → Type 0
-OfLookup P identifier (Listed item) = P identifier item
-OfLookup P identifier NotListed = Unit
+abbrev pub OfLookup : (ℕ → Item → Type 0) → ℕ → Option Item → Type 0
+OfLookup P identifier (Some item) = P identifier item
+OfLookup P identifier None = Unit
 
 -- What is shown of rows holds of what is found in them.
 pub found_rule : (P : ℕ → Item → Type 0) (identifier : ℕ) (rows : List Row) → InRows P rows → OfLookup P identifier (found identifier rows)
@@ -43,7 +41,7 @@ found_rule P identifier (r ∷ rows) h =
     (λ e. found_rule P identifier rows h.1)
 
 module _ {P : ℕ → Item → Type 0} (rule : Rule P) (identifier : ℕ) where
-  abbrev Holds : Lookup → Type 0
+  abbrev Holds : Option Item → Type 0
   Holds = OfLookup P identifier
 
   -- A rule holds of what energy identifiers list.
@@ -69,11 +67,11 @@ module _ {P : ℕ → Item → Type 0} (rule : Rule P) (identifier : ℕ) where
       pick_cases Holds (eqb (identifier / 65536) 1) (λ p. energy_rule 0 _ _ (omega arith))
       (λ p. pick_cases Holds (eqb (identifier / 65536) 2) (λ q. energy_rule 1 _ _ (omega arith)) (λ q. found_rule P identifier other_rows rule.of_rows))
 
-  pub listed_rule : (item : Item) → item_of identifier ≡ Listed item → P identifier item
+  pub listed_rule : (item : Item) → item_of identifier ≡ Some item → P identifier item
   listed_rule item h = rw h at item_rule
 
 -- The identifier and the value of a listed item fit one reply.
-pub listed-fits : (identifier : ℕ) (item : Item) → item_of identifier ≡ Listed item → 4 + item.length ≤ 200
+pub listed-fits : (identifier : ℕ) (item : Item) → item_of identifier ≡ Some item → 4 + item.length ≤ 200
 unfolding other_rows
 listed-fits =
     listed_rule {P = λ identifier item. 4 + item.length ≤ 200}
@@ -90,14 +88,14 @@ written_at Address = []
 written_at MeterNumber = 0x04000402 ∷ []
 written_at (SettlementDay n) = (0x04000B00 + n) ∷ []
 
-listed-written : (identifier : ℕ) (item : Item) → item_of identifier ≡ Listed item → pick item.writable (identifier ∷ []) [] ≡ written_at item.kind
+listed-written : (identifier : ℕ) (item : Item) → item_of identifier ≡ Some item → pick item.writable (identifier ∷ []) [] ≡ written_at item.kind
 unfolding other_rows
 listed-written =
     listed_rule {P = λ identifier item. pick item.writable (identifier ∷ []) [] ≡ written_at item.kind}
     (record { of_readings = λ identifier direction rate rates row rows w b. refl; of_rows = search depth 10 })
 
 -- A writable item has one identifier.
-pub writable-once : (identifier other : ℕ) (item another : Item) → item_of identifier ≡ Listed item → item_of other ≡ Listed another
+pub writable-once : (identifier other : ℕ) (item another : Item) → item_of identifier ≡ Some item → item_of other ≡ Some another
     → item.writable ≡ true → item.kind ≡ another.kind → identifier ≡ other
 writable-once identifier other item another h k w e =
     once another.writable (rw w at (listed-written identifier item h) ∙ ap written_at e ∙ sym (listed-written other another k))

@@ -1,5 +1,5 @@
 -- Document 01's table of data identifiers in its own figures, and that the table lists exactly these.
-use Rattle.std.specs.Prelude.{ℕ, ◌+◌, ◌*◌, ◌/◌, ◌%◌, ◌≤◌, ◌≡◌, refl, ◌↔◌, leb, eqb}
+use Rattle.std.specs.Prelude.{ℕ, ◌+◌, ◌*◌, ◌/◌, ◌%◌, ◌≤◌, ◌≡◌, refl, ◌↔◌, leb, eqb, None, Option, Some}
 use Rattle.std.proofs.Common.{◌∙◌, arith}
 use Rattle.std.proofs.Math.Nat.{div-div-eq-div-mul}
 use borrow.Author.Tests.{leb-true, le-leb, eqb-true}
@@ -8,8 +8,6 @@ use Rattle.item.specs.Table.{read_only, writable_item, readings, energy_item, ot
 use Rattle.item.proofs.TableLaws.{InRows, OfLookup, found_rule}
 use Rattle.item.specs.declared.table.Kind.TheVariants.{Energy, Date, Time, DemandPeriod, Slip, Address, MeterNumber, SettlementDay}
 use Rattle.item.specs.declared.table.Item.{Item}
-use Rattle.item.specs.declared.table.Lookup.{Lookup}
-use Rattle.item.specs.declared.table.Lookup.TheVariants.{Listed, NotListed}
 
 -- The energies of one direction, whose identifiers begin with the two bytes DI3 and DI2 of `front`: t s is one reading, of column t and row s;
 -- FF s all columns of row s; t FF all rows of column t. Four bytes each reading, none to be written.
@@ -54,7 +52,7 @@ energy_listed direction front identifier whole =
     s : ℕ
     s = identifier % 256
 
-    P : Lookup → Type 0
+    P : Option Item → Type 0
     P = OfLookup (EnergyListed direction front) identifier
 
 -- Its bytes make it up.
@@ -79,10 +77,10 @@ lookup_listed identifier =
     s : ℕ
     s = identifier % 256
 
-    through : (P : ℕ → Item → Type 0) → ((item : Item) → P identifier item → InTable identifier item) → (l : Lookup) → OfLookup P identifier l
+    through : (P : ℕ → Item → Type 0) → ((item : Item) → P identifier item → InTable identifier item) → (l : Option Item) → OfLookup P identifier l
         → OfLookup InTable identifier l
-    through P f (Listed item) h = f item h
-    through P f NotListed h = tt
+    through P f (Some item) h = f item h
+    through P f None h = tt
 
     rows : InRows InTable other_rows
     rows = (
@@ -114,29 +112,29 @@ energies_at t s p q = (
 
 -- What is listed for each row of one direction's energies.
 module _ (direction front : ℕ) (listed_at : (t s : ℕ) → t ≤ 255 → s ≤ 255 → item_of (front + (256 * t + s)) ≡ energy_item direction t s) where
-  one-listed : (t s : ℕ) → t ≤ 4 → s ≤ 12 → item_of (front + (256 * t + s)) ≡ Listed (read_only (Energy direction t 1 s 1) 4)
+  one-listed : (t s : ℕ) → t ≤ 4 → s ≤ 12 → item_of (front + (256 * t + s)) ≡ Some (read_only (Energy direction t 1 s 1) 4)
   unfolding energy_item readings
   one-listed t s p q = listed_at t s (omega arith) (omega arith) ∙ rw (le-leb t 4 p, le-leb s 12 q)
 
-  all_t_listed : (s : ℕ) → s ≤ 12 → item_of (front + (0xFF00 + s)) ≡ Listed (read_only (Energy direction 0 5 s 1) 20)
+  all_t_listed : (s : ℕ) → s ≤ 12 → item_of (front + (0xFF00 + s)) ≡ Some (read_only (Energy direction 0 5 s 1) 20)
   unfolding energy_item readings
   all_t_listed s q = listed_at 0xFF s (omega arith) (omega arith) ∙ rw (le-leb s 12 q)
 
-  all_s_listed : (t : ℕ) → t ≤ 4 → item_of (front + (256 * t + 0xFF)) ≡ Listed (read_only (Energy direction t 1 0 13) 52)
+  all_s_listed : (t : ℕ) → t ≤ 4 → item_of (front + (256 * t + 0xFF)) ≡ Some (read_only (Energy direction t 1 0 13) 52)
   unfolding energy_item readings
   all_s_listed t p = listed_at t 0xFF (omega arith) (omega arith) ∙ rw (le-leb t 4 p)
 
-  direction_listed : (identifier : ℕ) (item : Item) → EnergyListed direction front identifier item → item_of identifier ≡ Listed item
+  direction_listed : (identifier : ℕ) (item : Item) → EnergyListed direction front identifier item → item_of identifier ≡ Some item
   direction_listed identifier item (one t s p q e f) = rw (e, f) (one-listed t s p q)
   direction_listed identifier item (all_t s q e f) = rw (e, f) (all_t_listed s q)
   direction_listed identifier item (all_s t p e f) = rw (e, f) (all_s_listed t p)
 
 -- An identifier is listed, and as this item, exactly where document 01's table has it.
-pub table-words : (identifier : ℕ) (item : Item) → (item_of identifier ≡ Listed item) ↔ InTable identifier item
+pub table-words : (identifier : ℕ) (item : Item) → (item_of identifier ≡ Some item) ↔ InTable identifier item
 unfolding item_of found other_rows
 table-words identifier item = (λ h. rw h at (lookup_listed identifier), back)
   where
-    back : InTable identifier item → item_of identifier ≡ Listed item
+    back : InTable identifier item → item_of identifier ≡ Some item
     back (forward r) = direction_listed 0 0x00010000 (λ t s p q. (energies_at t s p q).0) identifier item r
     back (reverse r) = direction_listed 1 0x00020000 (λ t s p q. (energies_at t s p q).1) identifier item r
     back (date e f) = rw (e, f)

@@ -1,17 +1,15 @@
 -- Document 01, "Written content": of a writable item and of its length, decimal over the whole value, then the ranges. Values stand low byte
 -- first.
-use Rattle.std.specs.Prelude.{ℕ, List, Bool, true, false, ◌&&◌, ◌||◌, length, get_or, eqb}
+use Rattle.std.specs.Prelude.{ℕ, List, Bool, true, false, ◌&&◌, ◌||◌, length, get_or, eqb, Err, None, Ok, Option, Result, Some}
+use Rattle.item.specs.declared.content.ContentError.{ContentError}
+use Rattle.item.specs.declared.content.ContentError.TheVariants.{NotDecimal, NotWritable, OutOfRange, WrongLength}
 use Rattle.laws.specs.Test.{pick}
 use Rattle.item_range.specs.Range.{within}
 use Rattle.item_decimal.specs.Decimal.{first_bad, digits}
-use Rattle.item_decimal.specs.declared.Scan.{Scan}
-use Rattle.item_decimal.specs.declared.Scan.TheVariants.{AllDecimal, BadAt}
 use Rattle.item.specs.declared.table.Kind.{Kind}
 use Rattle.item.specs.declared.table.Kind.TheVariants.{Energy, Date, Time, DemandPeriod, Slip, Address, MeterNumber, SettlementDay}
 use Rattle.item.specs.declared.table.Item.{Item}
 use Rattle.item.specs.declared.content.Bounds.{Bounds}
-use Rattle.item.specs.declared.content.Content.{Content}
-use Rattle.item.specs.declared.content.Content.TheVariants.{Allowed, NotWritable, WrongLength, NotDecimal, OutOfRange}
 
 -- The number of the two digits at a place of the value.
 unfoldable pub digits_at : List ℕ → ℕ → ℕ
@@ -59,23 +57,23 @@ in_range MeterNumber value = true
 in_range (SettlementDay n) value = settlement_day_in_range value
 
 -- A half byte above 9 is found before any range is looked at.
-abbrev pub after_scan : Scan → Bool → Content
-after_scan (BadAt i) ranges = NotDecimal i
-after_scan AllDecimal true = Allowed
-after_scan AllDecimal false = OutOfRange
+abbrev pub after_scan : Option ℕ → Bool → Result Unit ContentError
+after_scan (Some i) ranges = Err (NotDecimal i)
+after_scan None true = Ok tt
+after_scan None false = Err OutOfRange
 
 -- Whether a value may be written to an item: the item writable, the value of its length, every half byte 0 to 9, then the range.
-unfoldable pub content_of : Item → List ℕ → Content
+unfoldable pub content_of : Item → List ℕ → Result Unit ContentError
 content_of item value =
     pick item.writable
     (pick (eqb (length value) item.length)
     (after_scan (first_bad value) (in_range item.kind value))
-    WrongLength)
-    NotWritable
+    (Err WrongLength))
+    (Err NotWritable)
 
-abbrev pub content_is_allowed : Content → Bool
-content_is_allowed Allowed = true
-content_is_allowed NotWritable = false
-content_is_allowed WrongLength = false
-content_is_allowed (NotDecimal i) = false
-content_is_allowed OutOfRange = false
+abbrev pub content_is_allowed : Result Unit ContentError → Bool
+content_is_allowed (Ok tt) = true
+content_is_allowed (Err NotWritable) = false
+content_is_allowed (Err WrongLength) = false
+content_is_allowed (Err (NotDecimal i)) = false
+content_is_allowed (Err OutOfRange) = false

@@ -1,12 +1,10 @@
 -- Document 01's table of data identifiers: for each its kind, its length in bytes and whether it may be written. An identifier is a
 -- number whose highest byte is DI3 and whose lowest is DI0.
-use Rattle.std.specs.Prelude.{ℕ, ◌*◌, ◌/◌, ◌%◌, List, [], ◌∷◌, Bool, true, false, leb, eqb}
+use Rattle.std.specs.Prelude.{ℕ, ◌*◌, ◌/◌, ◌%◌, List, [], ◌∷◌, Bool, true, false, leb, eqb, None, Option, Some}
 use Rattle.laws.specs.Test.{pick}
 use Rattle.item.specs.declared.table.Kind.{Kind}
 use Rattle.item.specs.declared.table.Kind.TheVariants.{Energy, Date, Time, DemandPeriod, Slip, Address, MeterNumber, SettlementDay}
 use Rattle.item.specs.declared.table.Item.{Item}
-use Rattle.item.specs.declared.table.Lookup.{Lookup}
-use Rattle.item.specs.declared.table.Lookup.TheVariants.{Listed, NotListed}
 
 -- An item that is only read, and one that may be written.
 abbrev pub read_only : Kind → ℕ → Item
@@ -16,23 +14,23 @@ abbrev pub writable_item : Kind → ℕ → Item
 writable_item kind length = record { kind = kind; length = length; writable = true }
 
 -- The readings of `rates` columns from `rate` on, each at `rows` rows from `row` on: four bytes each, not to be written.
-unfoldable pub readings : ℕ → ℕ → ℕ → ℕ → ℕ → Lookup
-readings direction rate rates row rows = Listed (read_only (Energy direction rate rates row rows) (4 * rates * rows))
+unfoldable pub readings : ℕ → ℕ → ℕ → ℕ → ℕ → Option Item
+readings direction rate rates row rows = Some (read_only (Energy direction rate rates row rows) (4 * rates * rows))
 
 -- t 00..04 with s 00..0C; t with FF, all s in order; FF with s, all t in order. Both FF at once is not an identifier.
-unfoldable pub energy_item : ℕ → ℕ → ℕ → Lookup
+unfoldable pub energy_item : ℕ → ℕ → ℕ → Option Item
 energy_item direction t s =
     pick (leb t 4)
     (pick (leb s 12)
     (readings direction t 1 s 1)
     (pick (eqb s 0xFF)
     (readings direction t 1 0 13)
-    NotListed))
+    None))
     (pick (eqb t 0xFF)
     (pick (leb s 12)
     (readings direction 0 5 s 1)
-    NotListed)
-    NotListed)
+    None)
+    None)
 
 -- A row of the rest of the table.
 pub record Row : Type 0 where
@@ -57,12 +55,12 @@ other_rows =
     ∷ []
 
 -- The first row of this identifier.
-unfoldable pub found : ℕ → List Row → Lookup
-found identifier [] = NotListed
-found identifier (r ∷ rows) = pick (eqb identifier r.identifier) (Listed r.item) (found identifier rows)
+unfoldable pub found : ℕ → List Row → Option Item
+found identifier [] = None
+found identifier (r ∷ rows) = pick (eqb identifier r.identifier) (Some r.item) (found identifier rows)
 
 -- What the table has for an identifier: 00 01 t s is forward energy, 00 02 t s is reverse energy.
-unfoldable pub item_of : ℕ → Lookup
+unfoldable pub item_of : ℕ → Option Item
 item_of identifier =
     pick (eqb (identifier / 65536) 1)
     (energy_item 0 (identifier / 256 % 256) (identifier % 256))
@@ -71,6 +69,6 @@ item_of identifier =
     (found identifier other_rows))
 
 -- A value of so many bytes has the length of what was looked up; of an identifier that is not listed none has.
-abbrev pub has_length : Lookup → ℕ → Bool
-has_length (Listed item) n = eqb n item.length
-has_length NotListed n = false
+abbrev pub has_length : Option Item → ℕ → Bool
+has_length (Some item) n = eqb n item.length
+has_length None n = false

@@ -1,11 +1,12 @@
 // Document 01's table of data identifiers. `item_of` is the only test of an identifier.
-ghost use Rattle.std.specs.Prelude.{◌≡◌, ◌≤◌};
+ghost use Rattle.std.specs.Prelude.{◌≡◌, ◌≤◌, Some};
 ghost use Rattle.item.specs.Table.{item_of, energy_item, readings, writable_item};
 
 // What an identifier names.
 #[derive(Clone, Copy)]
 pub enum Kind {
-    // Readings of direction 0, forward, or 1, reverse: of `rates` columns from `rate` on, each at `rows` rows from `row` on.
+    // Readings of direction 0, forward, or 1, reverse: of `rates` columns from `rate` on, each at `rows` rows from `row` on. A number, as
+    // the definitions `energy_item` and `location_of` have it.
     Energy {
         direction: u8,
         rate: usize,
@@ -36,38 +37,22 @@ pub struct Item {
     pub writable: bool,
 }
 
-// What the table has for an identifier.
-#[derive(Clone, Copy)]
-pub enum Lookup {
-    Listed(Item),
-    NotListed,
-}
-
 // The row of a single reading or a block of readings: DI1 is the column t or FF for all, DI0 the row s or FF for all.
-fn energy(direction: u8, t: u32, s: u32) -> Lookup
+#[tactic(auto, unfolding(crate::specs::Table::energy_item))]
+fn energy(direction: u8, t: u32, s: u32) -> Option<Item>
     ensures { result ≡ energy_item direction t s }
 {
-    if t <= 4 {
-        if s <= 12 {
-            return readings(direction, t as usize, 1, s as usize, 1);
-        }
-        if s == 0xFF {
-            return readings(direction, t as usize, 1, 0, 13);
-        }
-        return Lookup::NotListed;
+    match (t, s) {
+        (0..=4, 0..=12) => readings(direction, t as usize, 1, s as usize, 1),
+        (0..=4, 0xFF) => readings(direction, t as usize, 1, 0, 13),
+        (0xFF, 0..=12) => readings(direction, 0, 5, s as usize, 1),
+        _ => None,
     }
-    if t == 0xFF {
-        if s <= 12 {
-            return readings(direction, 0, 5, s as usize, 1);
-        }
-        return Lookup::NotListed;
-    }
-    Lookup::NotListed
 }
 
-// The table's row for a data identifier, a number whose highest byte is DI3 and whose lowest is DI0.
+// The table's row for a data identifier, if it has one; a number whose highest byte is DI3 and whose lowest is DI0.
 #[tactic(auto, unfolding(crate::specs::Table::item_of, crate::specs::Table::found, crate::specs::Table::other_rows))]
-pub fn item_of(identifier: u32) -> Lookup
+pub fn item_of(identifier: u32) -> Option<Item>
     ensures { result ≡ item_of identifier }
 {
     let group = identifier / 65536;
@@ -82,7 +67,7 @@ pub fn item_of(identifier: u32) -> Lookup
         0x04000102 => register(Kind::Time, 3),
         0x04000103 => register(Kind::DemandPeriod, 1),
         0x04000104 => register(Kind::Slip, 1),
-        0x04000401 => Lookup::Listed(Item {
+        0x04000401 => Some(Item {
             kind: Kind::Address,
             length: 6,
             writable: false,
@@ -91,16 +76,18 @@ pub fn item_of(identifier: u32) -> Lookup
         0x04000B01 => register(Kind::SettlementDay(1), 2),
         0x04000B02 => register(Kind::SettlementDay(2), 2),
         0x04000B03 => register(Kind::SettlementDay(3), 2),
-        _ => Lookup::NotListed,
+        _ => None,
     }
 }
 
 // A row of readings: four bytes each, not to be written.
-fn readings(direction: u8, rate: usize, rates: usize, row: usize, rows: usize) -> Lookup
+// One parameter for each field of the public `Kind::Energy`, as the definition `readings` has them.
+#[tactic(auto, unfolding(crate::specs::Table::readings))]
+fn readings(direction: u8, rate: usize, rates: usize, row: usize, rows: usize) -> Option<Item>
     requires { (rates ≤ 5) × (rows ≤ 13) }
     ensures { result ≡ readings direction rate rates row rows }
 {
-    Lookup::Listed(Item {
+    Some(Item {
         kind: Kind::Energy {
             direction,
             rate,
@@ -114,10 +101,10 @@ fn readings(direction: u8, rate: usize, rates: usize, row: usize, rows: usize) -
 }
 
 // A row of a register: to be written by 14H.
-fn register(kind: Kind, length: usize) -> Lookup
-    ensures { result ≡ Lookup.Listed (writable_item kind length) }
+fn register(kind: Kind, length: usize) -> Option<Item>
+    ensures { result ≡ Some (writable_item kind length) }
 {
-    Lookup::Listed(Item {
+    Some(Item {
         kind,
         length,
         writable: true,

@@ -16,6 +16,7 @@ pub struct Date {
 }
 
 // Leap when YY divides by four.
+#[tactic(auto, unfolding(crate::specs::Calendar::is_leap))]
 fn is_leap(year: usize) -> bool
     ensures { result ≡ is_leap year }
 {
@@ -23,22 +24,19 @@ fn is_leap(year: usize) -> bool
 }
 
 // How many days a month has, in a leap year or another.
+#[tactic(auto, unfolding(crate::specs::Calendar::month_length, crate::specs::Calendar::has_thirty_days))]
 fn month_length(leap: bool, month: usize) -> usize
     ensures { result ≡ month_length leap month }
 {
-    if month == 2 {
-        if leap {
-            return 29;
-        }
-        return 28;
+    match month {
+        2 => if leap { 29 } else { 28 },
+        4 | 6 | 9 | 11 => 30,
+        _ => 31,
     }
-    if (month == 4) | ((month == 6) | ((month == 9) | (month == 11))) {
-        return 30;
-    }
-    31
 }
 
 // Whether numbers are a date of the years 2000 to 2099.
+#[tactic(auto, unfolding(crate::specs::Calendar::is_date))]
 pub fn is_date(date: Date) -> bool
     ensures { result ≡ is_date date }
 {
@@ -47,21 +45,23 @@ pub fn is_date(date: Date) -> bool
 }
 
 // How many days the first `months` months of a year have. `days` counts 30 for February, which has one or two fewer.
+#[tactic(auto, using(crate::proofs::DaysLaws::days_figure))]
 fn days_of_months(leap: bool, months: usize) -> usize
     requires { months ≤ 11 }
     ensures { result ≡ days_of_months leap months }
 {
     let days = (367 * months + 5) / 12;
     if months < 2 {
-        return days;
+        days
+    } else if leap {
+        days - 1
+    } else {
+        days - 2
     }
-    if leap {
-        return days - 1;
-    }
-    days - 2
 }
 
 // The weekday of a date: 0 for Sunday to 6 for Saturday. 2000-01-01 was a Saturday.
+#[tactic(auto, unfolding(crate::specs::Calendar::weekday_of, crate::specs::Calendar::day_number), using(crate::proofs::DaysLaws::days_most, crate::proofs::CalendarLaws::month_days))]
 fn weekday_of(date: Date) -> usize
     requires { Tested date }
     ensures { result ≡ weekday_of date }
@@ -72,11 +72,9 @@ fn weekday_of(date: Date) -> usize
 }
 
 // Whether a date falls on a weekday. What is no date falls on none.
+#[tactic(auto, unfolding(crate::specs::Calendar::falls_on, crate::specs::Calendar::is_date, item_range::specs::Range::within))]
 pub fn falls_on(date: Date, weekday: usize) -> bool
     ensures { result ≡ falls_on date weekday }
 {
-    if !is_date(date) {
-        return false;
-    }
-    weekday == weekday_of(date)
+    is_date(date) && weekday == weekday_of(date)
 }

@@ -1,15 +1,13 @@
 -- Laws of commands: what a control code asks for.
-use Rattle.std.specs.Prelude.{ℕ, ◌≡◌, refl, eqb}
+use Rattle.std.specs.Prelude.{ℕ, ◌≡◌, refl, eqb, None, Option, Some}
 use Rattle.std.proofs.Common.{eqb-true}
 use Rattle.laws.specs.TestLaws.{pick_cases}
 use Rattle.item_command.specs.Command.{command_of, control_for}
 use Rattle.item_command.specs.declared.Command.{Command}
 use Rattle.item_command.specs.declared.Command.TheVariants.{ReadData, ReadAddress, WriteData, WriteAddress, ChangePassword}
-use Rattle.item_command.specs.declared.Asked.{Asked}
-use Rattle.item_command.specs.declared.Asked.TheVariants.{Known, Unknown}
 
 -- A command's control code is known as that command.
-pub command-known : (command : Command) → command_of (control_for command) ≡ Known command
+pub command-known : (command : Command) → command_of (control_for command) ≡ Some command
 unfolding command_of
 command-known ReadData = refl
 command-known ReadAddress = refl
@@ -18,9 +16,9 @@ command-known WriteAddress = refl
 command-known ChangePassword = refl
 
 -- What a control code asks for: a command of that code, or nothing known.
-pub data Asks (control : ℕ) : Asked → Type 0 where
-  known : (command : Command) → control ≡ control_for command → Asks control (Known command)
-  unknown : Asks control Unknown
+pub data Asks (control : ℕ) : Option Command → Type 0 where
+  known : (command : Command) → control ≡ control_for command → Asks control (Some command)
+  unknown : Asks control None
 
 pub asks : (control : ℕ) → Asks control (command_of control)
 unfolding command_of

@@ -1,11 +1,9 @@
 -- Document 01's control codes in its own figures: of the commands that a meter knows, of normal replies and of error replies.
-use Rattle.std.specs.Prelude.{ℕ, ◌<◌, ◌≡◌, refl, Bool, true, false, ◌↔◌}
+use Rattle.std.specs.Prelude.{ℕ, ◌<◌, ◌≡◌, refl, Bool, true, false, ◌↔◌, Option, Some}
 use Rattle.std.proofs.Common.{sym, ◌∙◌, arith}
 use Rattle.item_command.specs.Command.{command_of, control_for}
 use Rattle.item_command.proofs.CommandLaws.{command-known, asks, Asks, known, unknown, same-control}
 use Rattle.item_command.specs.Reply.{control_code, reply_to}
-use Rattle.item_command.specs.declared.Asked.{Asked}
-use Rattle.item_command.specs.declared.Asked.TheVariants.{Known}
 use Rattle.item_command.specs.declared.Command.{Command}
 use Rattle.item_command.specs.declared.Command.TheVariants.{ReadData, ReadAddress, WriteData, WriteAddress, ChangePassword}
 
@@ -41,13 +39,13 @@ control_figure WriteData control = (λ e. e, λ e. e)
 control_figure WriteAddress control = (λ e. e, λ e. e)
 control_figure ChangePassword control = (λ e. e, λ e. e)
 
-pub known-iff : (control : ℕ) (command : Command) → (command_of control ≡ Known command) ↔ IsControl command control
+pub known-iff : (control : ℕ) (command : Command) → (command_of control ≡ Some command) ↔ IsControl command control
 known-iff control command = (
   λ h. (control_figure command control).0 (from-asked (asks control) h),
   λ e. rw ((control_figure command control).1 e) (command-known command),
 )
   where
-    from-asked : {asked : Asked} → Asks control asked → asked ≡ Known command → control ≡ control_for command
+    from-asked : {asked : Option Command} → Asks control asked → asked ≡ Some command → control ≡ control_for command
     from-asked (known another e) h = let same : another ≡ command = cc in rw (← same) e
     from-asked unknown h = cc
 

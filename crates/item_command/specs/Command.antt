@@ -1,20 +1,18 @@
 -- Commands: the controls of document 01.
-use Rattle.std.specs.Prelude.{ℕ, eqb}
+use Rattle.std.specs.Prelude.{ℕ, eqb, None, Option, Some}
 use Rattle.laws.specs.Test.{pick}
 use Rattle.item_command.specs.declared.Command.{Command}
 use Rattle.item_command.specs.declared.Command.TheVariants.{ReadData, ReadAddress, WriteData, WriteAddress, ChangePassword}
-use Rattle.item_command.specs.declared.Asked.{Asked}
-use Rattle.item_command.specs.declared.Asked.TheVariants.{Known, Unknown}
 
 -- The controls that a meter knows.
-unfoldable pub command_of : ℕ → Asked
+unfoldable pub command_of : ℕ → Option Command
 command_of control =
-    pick (eqb control 0x11) (Known ReadData)
-    (pick (eqb control 0x13) (Known ReadAddress)
-    (pick (eqb control 0x14) (Known WriteData)
-    (pick (eqb control 0x15) (Known WriteAddress)
-    (pick (eqb control 0x18) (Known ChangePassword)
-    Unknown))))
+    pick (eqb control 0x11) (Some ReadData)
+    (pick (eqb control 0x13) (Some ReadAddress)
+    (pick (eqb control 0x14) (Some WriteData)
+    (pick (eqb control 0x15) (Some WriteAddress)
+    (pick (eqb control 0x18) (Some ChangePassword)
+    None))))
 
 -- The control code of a command.
 abbrev pub control_for : Command → ℕ

@@ -9,7 +9,6 @@ ghost use Rattle.item_command.specs.Command.{command_of, control_for};
 ghost use Rattle.item_command.specs.Addressee.{addressee_of, names_meter, addressed};
 
 use item_address::{WILDCARD, short_matches};
-use item_same::same_bytes;
 
 // The commands of document 01, with their controls.
 #[derive(Clone, Copy)]
@@ -37,38 +36,33 @@ pub enum Addressee {
     OwnOrShort,
 }
 
-// What a control code asks for.
-#[derive(Clone, Copy)]
-pub enum Asked {
-    Known(Command),
-    Unknown,
-}
-
-// The command of a control code.
+// The command of a control code, if it is one of these; no `TryFrom`, whose error would say no more than `None`.
 #[tactic(auto, unfolding(crate::specs::Command::command_of))]
-pub fn command_of(control: u8) -> Asked
+pub fn command_of(control: u8) -> Option<Command>
     ensures { result ≡ command_of control }
 {
     match control {
-        0x11 => Asked::Known(Command::ReadData),
-        0x13 => Asked::Known(Command::ReadAddress),
-        0x14 => Asked::Known(Command::WriteData),
-        0x15 => Asked::Known(Command::WriteAddress),
-        0x18 => Asked::Known(Command::ChangePassword),
-        _ => Asked::Unknown,
+        0x11 => Some(Command::ReadData),
+        0x13 => Some(Command::ReadAddress),
+        0x14 => Some(Command::WriteData),
+        0x15 => Some(Command::WriteAddress),
+        0x18 => Some(Command::ChangePassword),
+        _ => None,
     }
 }
 
 // The control code of a command.
-pub fn control_of(command: Command) -> u8
-    ensures { result ≡ control_for command }
-{
-    match command {
-        Command::ReadData => 0x11,
-        Command::ReadAddress => 0x13,
-        Command::WriteData => 0x14,
-        Command::WriteAddress => 0x15,
-        Command::ChangePassword => 0x18,
+impl From<Command> for u8 {
+    ghost from_gives = { λ command control. control ≡ control_for command };
+
+    fn from(command: Command) -> Self {
+        match command {
+            Command::ReadData => 0x11,
+            Command::ReadAddress => 0x13,
+            Command::WriteData => 0x14,
+            Command::WriteAddress => 0x15,
+            Command::ChangePassword => 0x18,
+        }
     }
 }
 
@@ -86,23 +80,19 @@ fn addressee_of(command: Command) -> Addressee
 }
 
 // Whether an address field names the meter of this address.
+#[tactic(auto, unfolding(crate::specs::Addressee::names_meter), using(item_same::proofs::PairLaws::pairwise))]
 fn names_meter(addressee: Addressee, address: [u8; 6], own: [u8; 6]) -> bool
     ensures { result ≡ names_meter addressee address own }
 {
-    let wildcards = [WILDCARD; 6];
     match addressee {
-        Addressee::Own => same_bytes(&address, &own),
-        Addressee::Wildcards => same_bytes(&address, &wildcards),
-        Addressee::OwnOrShort => {
-            if same_bytes(&address, &own) {
-                return true;
-            }
-            short_matches(address, own)
-        }
+        Addressee::Own => address == own,
+        Addressee::Wildcards => address == [WILDCARD; 6],
+        Addressee::OwnOrShort => address == own || short_matches(address, own),
     }
 }
 
 // Whether a frame with this command and address is for the meter of this address.
+#[tactic(auto, unfolding(crate::specs::Addressee::addressed))]
 pub fn is_addressed(command: Command, address: [u8; 6], own: [u8; 6]) -> bool
     ensures { result ≡ addressed command address own }
 {

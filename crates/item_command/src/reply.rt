@@ -10,6 +10,7 @@ pub const NO_SUCH_DATA: u8 = 0x02;
 pub const NOT_AUTHORISED: u8 = 0x04;
 
 // The control code of a reply: bit 7 from the meter, bit 6 abnormal, bit 5 more to follow, the function in the other five.
+#[tactic(auto, unfolding(crate::specs::Reply::control_code, crate::specs::Reply::reply_to))]
 pub fn reply_to(control: u8, abnormal: bool) -> u8
     ensures { result ≡ reply_to control abnormal }
 {

@@ -1,6 +1,6 @@
 -- Laws of packed decimal, each over the length of the item.
-use Rattle.std.specs.Prelude.{ℕ, zero, suc, ◌+◌, ◌*◌, ◌/◌, ◌%◌, ◌^◌, ◌≤◌, ◌<◌, ◌≡◌, refl, List, [], ◌∷◌, ◌++◌, Bool, true, false, ◌&&◌, length, take, drop, get_or, leb}
-use Rattle.std.proofs.Math.Path.{ap}
+use Rattle.std.specs.Prelude.{ℕ, zero, suc, ◌+◌, ◌*◌, ◌/◌, ◌%◌, ◌^◌, ◌≤◌, ◌<◌, ◌≡◌, refl, List, [], ◌∷◌, ◌++◌, Bool, true, false, ◌&&◌, length, take, drop, get_or, leb, Option, Some, None}
+use Rattle.std.proofs.Math.Path.{ap, sym}
 use Rattle.std.proofs.Common.{true≢false, add-one, drop-cons, leb-true, le-leb}
 use Rattle.std.proofs.lemmas.Bool.{false≢true}
 use Rattle.std.proofs.Math.Bool.{and-eq-true_iff}
@@ -10,10 +10,8 @@ use Rattle.std.proofs.Math.Seq.{drop-length}
 use Rattle.laws.specs.All.{all_of}
 use Rattle.laws.specs.Memory.{Bytes}
 use Rattle.laws.specs.Test.{pick}
-use Rattle.laws.specs.Walk.{Walk}
+use Rattle.laws.specs.Walk.{Walk, Walked, walked_start, walked_next, walked_stops, walked_end}
 use Rattle.item_decimal.specs.Decimal.{Decimal, all_decimal, first_bad, first_bad_from, found_none, is_decimal, digits, low_digits, packed, unpacked}
-use Rattle.item_decimal.specs.declared.Scan.{Scan}
-use Rattle.item_decimal.specs.declared.Scan.TheVariants.{AllDecimal, BadAt}
 
 -- The test of a byte holds exactly where both half bytes are 0 to 9.
 pub is_decimal_lem : (b : ℕ) → b % 16 ≤ 9 → b / 16 ≤ 9 → is_decimal b ≡ true
@@ -33,19 +31,19 @@ pub record FirstBad (bytes : List ℕ) (i : ℕ) : Type 0 where
   pub before : Decimal (take i bytes)
 
 -- What a scan that counts places from `i` on says of the bytes.
-data ScanSays (i : ℕ) (bytes : List ℕ) : Scan → Type 0 where
-  nothing : Decimal bytes → ScanSays i bytes AllDecimal
-  something : (j k : ℕ) → i + k ≡ j → FirstBad bytes k → ScanSays i bytes (BadAt j)
+data ScanSays (i : ℕ) (bytes : List ℕ) : Option ℕ → Type 0 where
+  nothing : Decimal bytes → ScanSays i bytes None
+  something : (j k : ℕ) → i + k ≡ j → FirstBad bytes k → ScanSays i bytes (Some j)
 
 -- One byte before the bytes of a scan.
 module _ (i b : ℕ) (bs : List ℕ) where
-  says-behind : {r : Scan} → is_decimal b ≡ true → ScanSays (i + 1) bs r → ScanSays i (b ∷ bs) r
+  says-behind : {r : Option ℕ} → is_decimal b ≡ true → ScanSays (i + 1) bs r → ScanSays i (b ∷ bs) r
   says-behind h (nothing d) = let halves = decimal-halves b h in nothing (halves.0, halves.1, d)
   says-behind h (something j k e f) =
       let halves = decimal-halves b h in
       something j (suc k) (omega arith) (record { inside = omega arith; bad = f.bad; before = (halves.0, halves.1, f.before) })
 
-  says-next : (t : Bool) {r : Scan} → is_decimal b ≡ t → ScanSays (i + 1) bs r → ScanSays i (b ∷ bs) (pick t r (BadAt i))
+  says-next : (t : Bool) {r : Option ℕ} → is_decimal b ≡ t → ScanSays (i + 1) bs r → ScanSays i (b ∷ bs) (pick t r (Some i))
   says-next true h s = says-behind h s
   says-next false h s = something i 0 (omega arith) (record { inside = omega arith; bad = h; before = tt })
 
@@ -55,28 +53,44 @@ scan-says i [] = nothing tt
 scan-says i (b ∷ bs) = says-next i b bs (is_decimal b) refl (scan-says (i + 1) bs)
 
 -- The scan is a walk that stops at the first such byte.
-pub decimal-walk : (bytes : List ℕ) → Walk (length bytes) (λ i. is_decimal (get_or bytes i 0)) BadAt AllDecimal (λ i. first_bad_from i (drop i bytes))
+pub decimal-walk : (bytes : List ℕ) → Walk (length bytes) (λ i. is_decimal (get_or bytes i 0)) Some None (λ i. first_bad_from i (drop i bytes))
 unfolding first_bad_from
 decimal-walk bytes = record { last = rw drop-length; next = λ i h. rw (drop-cons bytes i 0 h, add-one) }
+
+-- Bytes that are all decimal up to a place, and the byte there, or the end.
+module _ (bytes : List ℕ) where
+  walked-to : (i : ℕ) → i ≤ length bytes → ((k : ℕ) → k < i → is_decimal (get_or bytes k 0) ≡ true) → Walked (length bytes) (λ k. first_bad_from k (drop k bytes)) i
+  walked-to zero h before = walked_start
+  walked-to (suc i) h before =
+      rw (← add-one) (walked_next (decimal-walk bytes) (walked-to i (omega arith) (λ k l. before k (omega arith))) h (before i (omega arith)))
+
+  pub stopped : (i : ℕ) → i < length bytes → ((k : ℕ) → k < i → is_decimal (get_or bytes k 0) ≡ true) → is_decimal (get_or bytes i 0) ≡ false
+      → Some i ≡ first_bad bytes
+  unfolding first_bad
+  stopped i h before bad = sym (walked_stops (decimal-walk bytes) (walked-to i (omega arith) before) h bad)
+
+  pub walked-through : ((k : ℕ) → k < length bytes → is_decimal (get_or bytes k 0) ≡ true) → None ≡ first_bad bytes
+  unfolding first_bad
+  walked-through before = sym (walked_end (decimal-walk bytes) (walked-to (length bytes) (omega arith) before) (omega arith))
 
 -- The scan finds nothing exactly where every half byte is 0 to 9.
 pub all-decimal : (bytes : List ℕ) → all_decimal bytes ≡ true → Decimal bytes
 unfolding all_decimal first_bad
 all-decimal bytes h = says (scan-says 0 bytes) h
   where
-    says : {r : Scan} → ScanSays 0 bytes r → found_none r ≡ true → Decimal bytes
+    says : {r : Option ℕ} → ScanSays 0 bytes r → found_none r ≡ true → Decimal bytes
     says (nothing d) e = d
     says (something j k q f) e = absurd (false≢true e)
 
-pub scan-decimal : (bytes : List ℕ) → first_bad bytes ≡ AllDecimal → Decimal bytes
+pub scan-decimal : (bytes : List ℕ) → first_bad bytes ≡ None → Decimal bytes
 unfolding all_decimal
 scan-decimal bytes h = all-decimal bytes (ap found_none h)
 
-pub decimal-scan : (bytes : List ℕ) → Decimal bytes → first_bad bytes ≡ AllDecimal
+pub decimal-scan : (bytes : List ℕ) → Decimal bytes → first_bad bytes ≡ None
 unfolding first_bad first_bad_from
 decimal-scan bytes h = from 0 bytes h
   where
-    from : (i : ℕ) (bytes : List ℕ) → Decimal bytes → first_bad_from i bytes ≡ AllDecimal
+    from : (i : ℕ) (bytes : List ℕ) → Decimal bytes → first_bad_from i bytes ≡ None
     from i [] h = refl
     from i (b ∷ bs) h = rw (is_decimal_lem b h.0 h.1) (from (i + 1) bs h.2)
 
@@ -89,7 +103,7 @@ pub every_decimal : (bytes : List ℕ) → all_of is_decimal bytes ≡ all_decim
 unfolding all_of all_decimal first_bad first_bad_from
 every_decimal bytes = from 0 bytes
   where
-    one_more : (t rest : Bool) (i : ℕ) (found : Scan) → rest ≡ found_none found → (t && rest) ≡ found_none (pick t found (BadAt i))
+    one_more : (t rest : Bool) (i : ℕ) (found : Option ℕ) → rest ≡ found_none found → (t && rest) ≡ found_none (pick t found (Some i))
     one_more true rest i found e = e
     one_more false rest i found e = refl
 
@@ -97,11 +111,11 @@ every_decimal bytes = from 0 bytes
     from i [] = refl
     from i (b ∷ bs) = one_more (is_decimal b) (all_of is_decimal bs) i (first_bad_from (i + 1) bs) (from (i + 1) bs)
 
-pub bad-first : (bytes : List ℕ) (i : ℕ) → first_bad bytes ≡ BadAt i → FirstBad bytes i
+pub bad-first : (bytes : List ℕ) (i : ℕ) → first_bad bytes ≡ Some i → FirstBad bytes i
 unfolding first_bad
 bad-first bytes i h = says (scan-says 0 bytes) h
   where
-    says : {r : Scan} → ScanSays 0 bytes r → r ≡ BadAt i → FirstBad bytes i
+    says : {r : Option ℕ} → ScanSays 0 bytes r → r ≡ Some i → FirstBad bytes i
     says (nothing d) e = absurd (true≢false (ap found_none e))
     says (something j k q f) e =
         let place : j ≡ i = cc in

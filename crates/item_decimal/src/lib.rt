@@ -5,27 +5,13 @@ ghost use Rattle.std.specs.Prelude.{◌≡◌, true, length, ltb, ◌^◌, ◌�
 ghost use Rattle.laws.specs.Memory.{outcome};
 ghost use Rattle.item_decimal.specs.Decimal.{is_decimal, first_bad, all_decimal, digits, packing, unpacked, unpacking};
 
-// Where bytes are no digits.
+// A number has more digits than the memory takes, which stays as it was.
 #[derive(Clone, Copy)]
-pub enum Scan {
-    // Every half byte is 0 to 9.
-    AllDecimal,
-    // The place of the first byte with a half byte above 9.
-    BadAt(usize),
-}
+pub struct TooLarge;
 
-// The answer to the packing of a number; only `Done` changes the memory.
+// Why bytes are no number.
 #[derive(Clone, Copy)]
-pub enum Packed {
-    Done,
-    // The number has more digits than the memory takes.
-    TooLarge,
-}
-
-// The answer to the unpacking of bytes.
-#[derive(Clone, Copy)]
-pub enum Unpacked {
-    Number(u64),
+pub enum UnpackError {
     // More than nine bytes, whose number might not fit.
     TooLong,
     // The place of the first byte with a half byte above 9.
@@ -33,41 +19,29 @@ pub enum Unpacked {
 }
 
 // Whether both half bytes of a byte are 0 to 9.
+#[tactic(auto, unfolding(crate::specs::Decimal::is_decimal))]
 fn is_decimal(b: u8) -> bool
     ensures { result ≡ is_decimal b }
 {
     (b % 16 <= 9) & (b / 16 <= 9)
 }
 
-// The first byte with a half byte above 9.
-pub fn first_bad(bytes: &[u8]) -> Scan
+// The place of the first byte with a half byte above 9, if there is one.
+pub fn first_bad(bytes: &[u8]) -> Option<usize>
     ensures { result ≡ first_bad bytes.now }
 {
-    let mut i = 0;
-    while i < bytes.len() {
-        if !is_decimal(bytes[i]) {
-            return Scan::BadAt(i);
-        }
-        i += 1;
-    }
-    Scan::AllDecimal
+    bytes.iter().position(|b| !is_decimal(*b))
 }
 
-// Whether every half byte is 0 to 9: one pass with a flag and no way out before the end, which the compiler turns into vector
-// instructions.
+// Whether every half byte is 0 to 9: one pass with no way out before the end, which the compiler turns into vector instructions.
 pub fn all_decimal(bytes: &[u8]) -> bool
     ensures { result ≡ all_decimal bytes.now }
 {
-    let mut all = true;
-    let mut i = 0;
-    while i < bytes.len() {
-        all = all & is_decimal(bytes[i]);
-        i += 1;
-    }
-    all
+    bytes.iter().fold(true, |all, b| all & is_decimal(*b))
 }
 
 // The number of a byte's two digits.
+#[tactic(auto, unfolding(crate::specs::Decimal::digits))]
 pub fn digits_of(b: u8) -> u8
     ensures { result ≡ digits b }
 {
@@ -79,43 +53,39 @@ fn fits(number: u64, pairs: usize) -> bool
     ensures { result ≡ ltb number (100 ^ pairs) }
 {
     let mut rest = number;
-    let mut i = 0;
-    while i < pairs {
-        rest = rest / 100;
-        i += 1;
+    for _ in 0..pairs {
+        rest /= 100;
     }
     rest == 0
 }
 
 // Writes a number as packed decimal over all of the memory.
-pub fn pack(number: u64, out: &mut [u8]) -> Packed
+pub fn pack(number: u64, out: &mut [u8]) -> Result<(), TooLarge>
     ensures { outcome result out.new ≡ packing number out.old }
 {
     if !fits(number, out.len()) {
-        return Packed::TooLarge;
+        return Err(TooLarge);
     }
     let mut rest = number;
-    let mut i = 0;
-    while i < out.len() {
+    for byte in out.iter_mut() {
         let pair = rest % 100;
-        out[i] = (pair + 6 * (pair / 10)) as u8;
-        rest = rest / 100;
-        i += 1;
+        *byte = (pair + 6 * (pair / 10)) as u8;
+        rest /= 100;
     }
-    Packed::Done
+    Ok(())
 }
 
 // The number of packed decimal bytes.
-pub fn unpack(bytes: &[u8]) -> Unpacked
+#[tactic(auto, unfolding(crate::specs::Decimal::unpacking, crate::specs::Decimal::all_decimal))]
+pub fn unpack(bytes: &[u8]) -> Result<u64, UnpackError>
     ensures { result ≡ unpacking bytes.now }
 {
     if 9 < bytes.len() {
-        return Unpacked::TooLong;
+        return Err(UnpackError::TooLong);
     }
-    let scan = first_bad(bytes);
-    match scan {
-        Scan::BadAt(i) => Unpacked::NotDecimal(i),
-        Scan::AllDecimal => Unpacked::Number(number_of(bytes)),
+    match first_bad(bytes) {
+        Some(i) => Err(UnpackError::NotDecimal(i)),
+        None => Ok(number_of(bytes)),
     }
 }
 
@@ -125,12 +95,9 @@ fn number_of(bytes: &[u8]) -> u64
     requires bytes_value { all_decimal bytes.now ≡ true }
     ensures { result ≡ unpacked bytes.now }
 {
-    let mut number: u64 = 0;
-    let mut left = bytes.len();
-    while 0 < left {
-        left -= 1;
-        let pair = digits_of(bytes[left]);
-        number = 100 * number + pair as u64;
+    let mut number = 0;
+    for b in bytes.iter().rev() {
+        number = 100 * number + u64::from(digits_of(*b));
     }
     number
 }

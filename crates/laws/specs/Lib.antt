@@ -17,3 +17,4 @@ pub mod Words
 pub mod WordsLaws
 pub mod WordsThen
 pub mod Said
+pub mod ResultLaws

@@ -1,4 +1,4 @@
--- What the papers say of an answer. Each enum that an operation answers with has one definition, its name ending in `Said`, that gives
+-- What the papers say of an answer. Each type that an operation answers with has one definition, its name ending in `_said`, that gives
 -- the papers' number and values for each of its cases; promises about refusals are made by it.
 use Rattle.std.specs.Prelude.{ℕ, refl, List, ◌↔◌}
 use Rattle.laws.specs.Memory.{LeftAlone}

@@ -1,6 +1,8 @@
 -- What a call comes to, by what the kept bytes and the symbol are: the cases of `called` that the receiver's code tells apart.
 use Prim.Native.Nat.{ℕ, ◌+◌, ◌≤◌, ◌<◌}
-use Rattle.std.specs.Prelude.{◌≡◌, true}
+use Rattle.frame.specs.declared.refusal.Refusal.TheVariants.{OutOfRange, ShortMemory}
+use Rattle.line.specs.Answer.{handed}
+use Rattle.std.specs.Prelude.{◌≡◌, true, Err}
 use Rattle.std.proofs.Math.Path.{refl, sym, ap}
 use Rattle.std.proofs.Common.{◌∙◌, arith}
 use mathlib.Core.List.{List, [], ◌∷◌, ◌++◌, append-nil, map-append}
@@ -24,21 +26,20 @@ use Rattle.line.specs.Rescan.{Rescans}
 use Rattle.line.specs.declared.Receiver.{Receiver}
 use Rattle.line.specs.declared.Received.{Received}
 use Rattle.line.specs.declared.drain.Rescanned.{Rescanned}
-use Rattle.line.specs.declared.Answer.TheVariants.{Refused, Delivered}
 
 -- What an answer with these parts is.
 abbrev pub answered : Receiver → ℕ → ℕ → List ℕ → Outcome Received
-answered r bytes frames m = outcome (record { receiver = r; answer = Delivered bytes frames }) m
+answered r bytes frames m = outcome (record { receiver = r; answer = handed bytes frames }) m
 
 module _ (r : Receiver) (s : Symbol) (m : List ℕ) where
   -- A receiver out of its range is refused with 16.
-  pub call-bad : within_range r ≡ false → outcome (record { receiver = r; answer = Refused 16 }) m ≡ called s r m
+  pub call-bad : within_range r ≡ false → outcome (record { receiver = r; answer = Err OutOfRange }) m ≡ called s r m
   unfolding called refused
   call-bad e = rw e
 
   module _ (good : within_range r ≡ true) where
     -- Too little memory is refused with 1.
-    pub call-short : length m < 212 → outcome (record { receiver = r; answer = Refused 1 }) m ≡ called s r m
+    pub call-short : length m < 212 → outcome (record { receiver = r; answer = Err ShortMemory }) m ≡ called s r m
     unfolding called refused
     call-short h = rw (good, lt-leb 212 (length m) h)
 
@@ -64,7 +65,7 @@ rescans_delivers d r kept m m₁ n w = λ i.
     outcome
     (record {
       receiver = record { kept = w.rest i; count = w.count i };
-      answer = Delivered (w.bytes i) (w.frames i);
+      answer = handed (w.bytes i) (w.frames i);
     })
     (w.memory i)
 

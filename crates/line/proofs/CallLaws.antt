@@ -1,5 +1,7 @@
 -- Laws of one call of a receiver that has heard a line: what it answers, what it hands on, and that it has then heard one symbol more.
-use Rattle.std.specs.Prelude.{ℕ, ◌≤◌, ◌<◌, ◌≡◌, refl, Bool, true, false, List, [], ◌∷◌, ◌++◌, length, drop, leb}
+use Rattle.std.specs.Prelude.{ℕ, ◌≤◌, ◌<◌, ◌≡◌, refl, Bool, true, false, List, [], ◌∷◌, ◌++◌, length, drop, leb, Err}
+use Rattle.frame.specs.declared.refusal.Refusal.TheVariants.{ShortMemory}
+use Rattle.line.specs.Answer.{handed}
 use Rattle.std.proofs.Common.{arith, ap, ◌∙◌, append-nil, append_assoc, length-append, length-drop, leb-true, leb-false}
 use Rattle.std.proofs.lemmas.List.{length-replicate}
 use Rattle.std.proofs.Math.Seq.{take-append_seam}
@@ -17,7 +19,6 @@ use Rattle.line_terms.proofs.ScanLaws.{scan_kept_open, place-joined, place-count
 use Rattle.line.specs.Receiver.{fresh, kept_bytes, within_range, refused, reading_with, keeping, delivered, called}
 use Rattle.line.specs.declared.Receiver.{Receiver}
 use Rattle.line.specs.declared.Received.{Received}
-use Rattle.line.specs.declared.Answer.TheVariants.{Refused, Delivered}
 
 -- The frames that one symbol more brings.
 abbrev pub new_frames : List Symbol → Symbol → List Found
@@ -70,14 +71,14 @@ unfolding kept_bytes
 received-within {x} {r} h = within_as r.kept r.count (received-most h) (ap recognised h.bytes ∙ scan_kept_open 0 0 x)
 
 called-within : {x : List Symbol} {r : Receiver} (s : Symbol) (m : List ℕ) → HasReceived x r →
-    called s r m ≡ pick (leb 212 (length m)) (delivered (reading_with r s) r m) (refused 1 r m)
+    called s r m ≡ pick (leb 212 (length m)) (delivered (reading_with r s) r m) (refused ShortMemory r m)
 unfolding called
 called-within s m h = rw (received-within h)
 
 -- What a call answers: refused with 1 under 212 bytes of memory, and nothing changed; else the new frames, over the front of the memory.
 pub data Answers (x : List Symbol) (s : Symbol) (r : Receiver) (m : List ℕ) (returned : Received) (left : List ℕ) : Type 0 where
-  ignores : length m < 212 → returned.answer ≡ Refused 1 → returned.receiver ≡ r → left ≡ m → Answers x s r m returned left
-  delivers : 212 ≤ length m → returned.answer ≡ Delivered (length (joined (new_frames x s))) (length (new_frames x s)) →
+  ignores : length m < 212 → returned.answer ≡ Err ShortMemory → returned.receiver ≡ r → left ≡ m → Answers x s r m returned left
+  delivers : 212 ≤ length m → returned.answer ≡ handed (length (joined (new_frames x s))) (length (new_frames x s)) →
       HasReceived (x ++ (s ∷ [])) returned.receiver → left ≡ over (joined (new_frames x s)) m → Answers x s r m returned left
 
 pub answers : {x : List Symbol} {s : Symbol} {r : Receiver} {m : List ℕ} {returned : Received} {left : List ℕ} → HasReceived x r →
@@ -85,7 +86,7 @@ pub answers : {x : List Symbol} {s : Symbol} {r : Receiver} {m : List ℕ} {retu
 unfolding refused delivered
 answers {x} {s} {r} {m} {returned} {left} h e = go (leb 212 (length m)) refl (e ∙ called-within s m h)
   where
-    go : (b : Bool) → leb 212 (length m) ≡ b → outcome returned left ≡ pick b (delivered (reading_with r s) r m) (refused 1 r m) →
+    go : (b : Bool) → leb 212 (length m) ≡ b → outcome returned left ≡ pick b (delivered (reading_with r s) r m) (refused ShortMemory r m) →
         Answers x s r m returned left
     go true l q =
         delivers (leb-true _ _ l)

@@ -1,5 +1,6 @@
 -- A call that delivers: what it answers and leaves, and that a call of a receiver that has heard a line, with memory enough, delivers.
 use Rattle.std.specs.Prelude.{ℕ, ◌≤◌, ◌≡◌, List, [], ◌∷◌, ◌++◌, length}
+use Rattle.line.specs.Answer.{handed}
 use Rattle.std.proofs.Common.{arith}
 use Rattle.laws.specs.Memory.{outcome, over}
 use Rattle.line_terms.specs.Line.{Symbol}
@@ -8,11 +9,10 @@ use Rattle.line.specs.Receiver.{called}
 use Rattle.line.proofs.CallLaws.{new_frames, HasReceived, Answers, ignores, delivers, answers}
 use Rattle.line.specs.declared.Receiver.{Receiver}
 use Rattle.line.specs.declared.Received.{Received}
-use Rattle.line.specs.declared.Answer.TheVariants.{Delivered}
 
 -- A call delivers these bytes, of so many frames: they stand over the front of its memory, and beyond them it is as it was.
 pub record Delivers (bytes : List ℕ) (frames : ℕ) (m left : List ℕ) (returned : Received) : Type 0 where
-  pub answer : returned.answer ≡ Delivered (length bytes) frames
+  pub answer : returned.answer ≡ handed (length bytes) frames
   pub memory : left ≡ over bytes m
 
 -- A call of a receiver that has heard a line, with memory enough.

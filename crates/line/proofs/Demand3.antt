@@ -1,5 +1,9 @@
 -- Demand 3 of the letter: the receiver hears the line neither early nor late. One theorem over every list of calls from a fresh receiver.
-use Rattle.std.specs.Prelude.{ℕ, ◌≤◌, ◌<◌, ◌≡◌, ◌↔◌, List, [], ◌∷◌, ◌++◌, length, take}
+use Rattle.std.specs.Prelude.{ℕ, ◌≤◌, ◌<◌, ◌≡◌, ◌↔◌, List, [], ◌∷◌, ◌++◌, length, take, Err, Result, Ok}
+use Rattle.frame.specs.declared.refusal.Refusal.{Refusal}
+use Rattle.frame.specs.declared.refusal.Refusal.TheVariants.{ShortMemory}
+use Rattle.line.specs.Answer.{handed}
+use Rattle.line.specs.declared.Delivered.{Delivered}
 use Rattle.std.proofs.Common.{arith, sym, subst}
 use Rattle.std.proofs.Math.Seq.{take-append_seam}
 use Rattle.laws.specs.Memory.{outcome, over, LeftAlone}
@@ -17,8 +21,6 @@ use Rattle.line.proofs.Said.{receiver_said}
 use Rattle.line.specs.Receiver.{fresh, kept_bytes, called}
 use Rattle.line.specs.declared.Receiver.{Receiver}
 use Rattle.line.specs.declared.Received.{Received}
-use Rattle.line.specs.declared.Answer.{Answer}
-use Rattle.line.specs.declared.Answer.TheVariants.{Refused, Delivered}
 
 -- A call: the symbol that it brought, the memory lent to it, what it returned, and that memory as it stood then.
 pub record ReceiverCall : Type 0 where
@@ -38,9 +40,9 @@ Calls r [] = Unit
 Calls r (c ∷ cs) = (outcome c.returned c.left ≡ called c.symbol r c.lent) × Calls c.returned.receiver cs
 
 -- What an answer adds to the line heard: the symbol, unless the call was refused.
-abbrev pub received_by : Answer → Symbol → List Symbol
-received_by (Refused n) s = []
-received_by (Delivered bytes frames) s = s ∷ []
+abbrev pub received_by : Result Delivered Refusal → Symbol → List Symbol
+received_by (Err n) s = []
+received_by (Ok d) s = s ∷ []
 
 -- Document 01's line heard: the symbols of all calls not refused.
 abbrev pub heard : List ReceiverCall → List Symbol
@@ -48,9 +50,9 @@ heard [] = []
 heard (c ∷ cs) = received_by c.returned.answer c.symbol ++ heard cs
 
 -- What a call hands on: as many bytes as it says, from the front of its memory as it stands on return; nothing if refused.
-abbrev pub delivered_by : Answer → List ℕ → List ℕ
-delivered_by (Refused n) left = []
-delivered_by (Delivered bytes frames) left = take bytes left
+abbrev pub delivered_by : Result Delivered Refusal → List ℕ → List ℕ
+delivered_by (Err n) left = []
+delivered_by (Ok d) left = take d.bytes left
 
 -- All that was handed on, joined.
 abbrev pub delivered_bytes : List ReceiverCall → List ℕ
@@ -59,7 +61,7 @@ delivered_bytes (c ∷ cs) = delivered_by c.returned.answer c.left ++ delivered_
 
 -- A call lent under 212 bytes is refused with 1, and nothing changed.
 pub record Ignored (r : Receiver) (c : ReceiverCall) : Type 0 where
-  pub answer : c.returned.answer ≡ Refused 1
+  pub answer : c.returned.answer ≡ Err ShortMemory
   pub receiver : LeftAlone r c.returned.receiver
   pub memory : LeftAlone c.lent c.left
 
@@ -67,7 +69,7 @@ pub record Ignored (r : Receiver) (c : ReceiverCall) : Type 0 where
 -- of the memory lent, which is as it was beyond them.
 pub record Counted (line : List Symbol) (c : ReceiverCall) : Type 1 where
   pub new : Exactly (Newly line (c.symbol ∷ []))
-  pub answer : c.returned.answer ≡ Delivered (length (joined new.frames)) (length new.frames)
+  pub answer : c.returned.answer ≡ handed (length (joined new.frames)) (length new.frames)
   pub memory : c.left ≡ over (joined new.frames) c.lent
 
 -- What holds of a call, by the line heard before it and the receiver given to it.

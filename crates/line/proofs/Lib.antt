@@ -6,3 +6,4 @@ pub mod RefusalWords
 pub mod RescanLaws
 pub mod Said
 pub mod SaidLaws
+pub mod AnswerLaws

@@ -1,5 +1,10 @@
 -- The receiver's refusals in document 01's words, for any receiver, symbol and memory.
-use Rattle.std.specs.Prelude.{ℕ, ◌≤◌, ◌<◌, ◌≡◌, refl, ◌↔◌, ◌⊎◌, true, List, length, leb}
+use Rattle.line.specs.declared.Delivered.{Delivered}
+use Rattle.laws.specs.ResultLaws.{err_same}
+use Rattle.frame.specs.declared.refusal.Refusal.{Refusal}
+use Rattle.std.specs.Prelude.{ℕ, ◌≤◌, ◌<◌, ◌≡◌, refl, ◌↔◌, ◌⊎◌, true, List, length, leb, Err, Result}
+use Rattle.frame.specs.declared.refusal.Refusal.TheVariants.{OutOfRange, ShortMemory}
+use Rattle.line.specs.Answer.{handed}
 use Rattle.std.proofs.Common.{arith, sym, subst, ◌∙◌, inl, inr, leb-true, leb-false}
 use Rattle.std.proofs.lemmas.Bool.{false≢true}
 use Rattle.laws.specs.Memory.{Outcome, outcome, LeftAlone}
@@ -12,7 +17,6 @@ use Rattle.line_terms.specs.Line.{Symbol}
 use Rattle.line.specs.Receiver.{kept_bytes, within_range, refused, delivered, called}
 use Rattle.line.specs.declared.Receiver.{Receiver}
 use Rattle.line.specs.declared.Received.{Received}
-use Rattle.line.specs.declared.Answer.TheVariants.{Refused, Delivered}
 
 -- A receiver's kept bytes are a proper beginning of a frame, at most 211.
 pub record InRange (r : Receiver) : Type 0 where
@@ -22,11 +26,11 @@ pub record InRange (r : Receiver) : Type 0 where
 -- What a call refuses: with 16 exactly a receiver out of its range, then with 1 exactly memory of under 212 bytes; and a refusal changes
 -- nothing.
 pub record CallRefusals (r : Receiver) (lent : List ℕ) (returned : Received) (left : List ℕ) : Type 0 where
-  pub sixteen : (returned.answer ≡ Refused 16) ↔ (InRange r → ⊥)
-  pub one : (returned.answer ≡ Refused 1) ↔ (InRange r × (length lent < 212))
-  pub others : (n : ℕ) → returned.answer ≡ Refused n → (n ≡ 16) ⊎ (n ≡ 1)
-  pub receiver : (n : ℕ) → returned.answer ≡ Refused n → LeftAlone r returned.receiver
-  pub memory : (n : ℕ) → returned.answer ≡ Refused n → LeftAlone lent left
+  pub sixteen : (returned.answer ≡ Err OutOfRange) ↔ (InRange r → ⊥)
+  pub one : (returned.answer ≡ Err ShortMemory) ↔ (InRange r × (length lent < 212))
+  pub others : (n : Refusal) → returned.answer ≡ Err n → (n ≡ OutOfRange) ⊎ (n ≡ ShortMemory)
+  pub receiver : (n : Refusal) → returned.answer ≡ Err n → LeftAlone r returned.receiver
+  pub memory : (n : Refusal) → returned.answer ≡ Err n → LeftAlone lent left
 
 -- The receiver's test of its range tells exactly this.
 pub in_range_iff : (r : Receiver) → (within_range r ≡ true) ↔ InRange r
@@ -37,10 +41,13 @@ in_range_iff r = (
 )
 
 -- A refusal is no other refusal, and no delivery.
-same_number : {a b : ℕ} → Refused a ≡ Refused b → a ≡ b
-same_number e = cc
+same_number : {a b : Refusal} → ◌≡◌ {A = Result Delivered Refusal} (Err a) (Err b) → a ≡ b
+same_number e = err_same e
 
-no_delivery : {A : Type 0} {a b n : ℕ} → Delivered a b ≡ Refused n → A
+short-apart : {A : Type 0} → ShortMemory ≡ OutOfRange → A
+short-apart e = let z : ◌≡◌ {A = ℕ} 0 1 = cc in absurd (omega arith)
+
+no_delivery : {A : Type 0} {a b : ℕ} {n : Refusal} → handed a b ≡ Err n → A
 no_delivery e = let z : ◌≡◌ {A = ℕ} 0 1 = cc in absurd (omega arith)
 
 -- Every call refuses so.
@@ -63,7 +70,7 @@ call-refusals s r lent returned left e =
     })
     (λ l.
     record {
-      sixteen = (λ a. absurd (omega (arith, same_number a)), λ out. absurd (out w));
+      sixteen = (λ a. short-apart (same_number a), λ out. absurd (out w));
       one = (λ a. (w, leb-false _ _ l), λ p. refl);
       others = λ n a. inr (sym (same_number a));
       receiver = λ n a. refl;
@@ -73,7 +80,7 @@ call-refusals s r lent returned left e =
     let out : InRange r → ⊥ = λ w. false≢true (sym bad ∙ (in_range_iff r).1 w) in
     record {
       sixteen = (λ a. out, λ w. refl);
-      one = (λ a. absurd (omega (arith, same_number a)), λ p. absurd (out p.0));
+      one = (λ a. short-apart (sym (same_number a)), λ p. absurd (out p.0));
       others = λ n a. inl (sym (same_number a));
       receiver = λ n a. refl;
       memory = λ n a. refl;

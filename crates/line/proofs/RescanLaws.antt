@@ -1,5 +1,6 @@
 -- Reading kept bytes anew: with a byte with which they begin no frame from the second on, and before a silence.
 use Rattle.std.specs.Prelude.{ℕ, zero, suc, ◌+◌, ◌-◌, ◌≤◌, ◌<◌, ◌≡◌, refl, true, take}
+use Rattle.line_block.specs.Answer.{block_gives}
 use Rattle.std.proofs.Math.Path.{ap}
 use Rattle.std.proofs.Common.{sym, ◌∙◌, arith, length-drop, drop-drop, length-take-le}
 use mathlib.Core.List.{List, [], ◌∷◌, ◌++◌}
@@ -9,9 +10,7 @@ use Rattle.std.proofs.Math.ListN.{length, drop, length-append}
 use Rattle.std.proofs.Math.Seq.{take-nil}
 use Rattle.laws.specs.Memory.{outcome, over}
 use Rattle.frame.specs.Recognition.{recognised}
-use Rattle.frame.specs.declared.Recognised.{Recognised}
-use Rattle.frame.specs.declared.Recognised.TheVariants.{Whole, Open, Neither}
-use Rattle.line_verdict.specs.Verdict.{is_open}
+use Rattle.frame.specs.declared.Recognised.TheVariants.{Open, Neither}
 use Rattle.line_terms.specs.Places.{joined}
 use Rattle.line_terms.specs.Scan.{LineReading, before_silence}
 use Rattle.line_terms.proofs.ScanLaws.{place-joined, place-count, place_kept}
@@ -20,8 +19,8 @@ use Rattle.line_block.proofs.DrainLaws.{reading-neither, reading-closed, drainin
 use Rattle.line_block.specs.Block.{block_reading, block_read}
 use Rattle.line_block.proofs.BlockLaws.{BlockDelivers, open_read, read-delivers}
 use Rattle.line_block.proofs.RestLaws.{rest-there}
-use Rattle.line_block.specs.declared.BlockAnswer.TheVariants.{Delivered}
 use Rattle.line.specs.Rescan.{Rescans}
+use Rattle.line.specs.declared.drain.Rescanned.{Rescanned}
 
 -- A part between two places, as the front of what follows the first or as what follows the first in a front.
 pub part_of_front : (a n : ℕ) (l : List ℕ) → take (n - a) (drop a l) ≡ drop a (take n l)
@@ -30,11 +29,9 @@ part_of_front (suc a) zero l = rw zero-sub
 part_of_front (suc a) (suc n) [] = rw take-nil
 part_of_front (suc a) (suc n) (x ∷ l) = rw suc-sub-suc (part_of_front a n l)
 
--- Bytes that are a proper beginning of a frame are recognised as open.
-open_is : (v : Recognised) → is_open v ≡ true → v ≡ Open
-open_is (Whole n) e = let z : ◌≡◌ {A = ℕ} 0 1 = cc in absurd (omega arith)
-open_is Open e = refl
-open_is Neither e = let z : ◌≡◌ {A = ℕ} 0 1 = cc in absurd (omega arith)
+-- What is copied to the front stands over it.
+pub put_front : (x y m : List ℕ) (k : ℕ) → x ≡ y → length y ≡ k → x ++ drop k m ≡ over y m
+put_front x y m k e l = rw (e, ← l)
 
 -- Bytes that begin no frame, the first of a line: the kept ones and one more.
 module _ (kept line : List ℕ) (count b : ℕ) (e : take (count + 1) line ≡ take count kept ++ (b ∷ [])) (h : count + 1 ≤ length line) where
@@ -46,8 +43,8 @@ module _ (kept line : List ℕ) (count b : ℕ) (e : take (count + 1) line ≡ t
   second-size = simp (length-take-le (count + 1 - 1) (drop 1 line) (simp length-drop (omega arith))) (omega arith)
 
   -- Where they are open, reading them as a block delivers nothing and keeps all.
-  pub second_open : (m : List ℕ) → count ≤ length m → is_open (recognised from_second) ≡ true → outcome (Delivered 0 0 0) m ≡ block_read from_second false m
-  second_open m l o = open_read from_second false m m 0 0 0 (draining_start from_second false m) (omega (arith, second-size)) refl (open_is _ o)
+  pub second_open : (m : List ℕ) → count ≤ length m → recognised from_second ≡ Open → outcome (block_gives 0 0 0) m ≡ block_read from_second false m
+  second_open m l o = open_read from_second false m m 0 0 0 (draining_start from_second false m) (omega (arith, second-size)) refl o
 
   module _ (n : recognised (take count kept ++ (b ∷ [])) ≡ Neither) where
     -- The reading of all is that of those, a place further on.
@@ -71,7 +68,7 @@ module _ (kept line : List ℕ) (count b : ℕ) (e : take (count + 1) line ≡ t
     on_kept = place_kept 0 1 _ ∙ ap (λ (r : LineReading). r.kept) (sym on)
 
     -- With those read as a block, and the rest of it copied back, the bytes are read anew.
-    pub read_rescans : (kept₁ m m₁ : List ℕ) (at bytes frames : ℕ) → 1 ≤ at → outcome (Delivered bytes frames (at - 1)) m₁ ≡ block_read from_second false m →
+    pub read_rescans : (kept₁ m m₁ : List ℕ) (at bytes frames : ℕ) → 1 ≤ at → outcome (block_gives bytes frames (at - 1)) m₁ ≡ block_read from_second false m →
         kept₁ ≡ over (take (count + 1 - at) (drop at line)) kept →
         Rescans (reading_from 0 (take count kept ++ (b ∷ [])) false) kept kept₁ m m₁ (record { count = count + 1 - at; bytes = bytes; frames = frames })
     read_rescans kept₁ m m₁ at bytes frames l r k =
@@ -93,7 +90,7 @@ module _ (kept line : List ℕ) (count b : ℕ) (e : take (count + 1) line ≡ t
         }
 
 -- Reading the kept bytes before a silence keeps nothing.
-pub silence_rescans : (x kept m m₁ : List ℕ) (bytes frames rest : ℕ) → outcome (Delivered bytes frames rest) m₁ ≡ block_read x true m →
+pub silence_rescans : (x kept m m₁ : List ℕ) (bytes frames rest : ℕ) → outcome (block_gives bytes frames rest) m₁ ≡ block_read x true m →
     Rescans (reading_from 0 x true) kept kept m m₁ (record { count = 0; bytes = bytes; frames = frames })
 unfolding block_reading
 silence_rescans x kept m m₁ bytes frames rest r =
@@ -105,4 +102,16 @@ silence_rescans x kept m m₁ bytes frames rest r =
       memory = w.memory;
       bytes = w.size;
       frames = w.count;
+    }
+
+-- So it does whatever the array is that they stand in.
+pub silence_alone : (x : List ℕ) {kept m m₁ : List ℕ} {n : Rescanned} (array : List ℕ) → Rescans (reading_from 0 x true) kept kept m m₁ n →
+    Rescans (reading_from 0 x true) array array m m₁ n
+silence_alone x array r =
+    record {
+      rest = ap (λ (l : List ℕ). over l array) (sym (reading-closed 0 x));
+      count = r.count;
+      memory = r.memory;
+      bytes = r.bytes;
+      frames = r.frames;
     }

@@ -1,5 +1,8 @@
 -- What the papers say of a receiver's answers, when a call is refused, and that receiver and memory are then as they were.
-use Rattle.std.specs.Prelude.{ℕ, ◌≤◌, ◌<◌, List, [], ◌∷◌, ◌⊎◌, length, leb}
+use Rattle.std.specs.Prelude.{ℕ, ◌≤◌, ◌<◌, List, [], ◌∷◌, ◌⊎◌, length, leb, Err, Result, Ok}
+use Rattle.frame.specs.Refusals.{number_of}
+use Rattle.frame.specs.declared.refusal.Refusal.{Refusal}
+use Rattle.line.specs.declared.Delivered.{Delivered}
 use Rattle.std.proofs.Common.{sym, ◌∙◌, inl, inr, arith, leb-true, leb-false}
 use Rattle.std.proofs.lemmas.Bool.{false≢true}
 use Rattle.laws.specs.Memory.{Outcome}
@@ -8,15 +11,13 @@ use Rattle.laws.specs.TestLaws.{pick_cases}
 use Rattle.line_terms.specs.Line.{Symbol}
 use Rattle.line.proofs.RefusalWords.{InRange, in_range_iff}
 use Rattle.line.specs.Receiver.{within_range, refused, delivered, called}
-use Rattle.line.specs.declared.Answer.{Answer}
-use Rattle.line.specs.declared.Answer.TheVariants.{Refused, Delivered}
 use Rattle.line.specs.declared.Received.{Received}
 use Rattle.line.specs.declared.Receiver.{Receiver}
 
 -- How many bytes and frames, or a refusal.
-abbrev pub receiver_said : Answer → Said
-receiver_said (Refused n) = refusal n
-receiver_said (Delivered bytes frames) = values (bytes ∷ frames ∷ [])
+abbrev pub receiver_said : Result Delivered Refusal → Said
+receiver_said (Err n) = refusal (number_of n)
+receiver_said (Ok d) = values (d.bytes ∷ d.frames ∷ [])
 
 -- The kept bytes are not a proper beginning of a frame, or the memory has under 212 bytes.
 abbrev pub CannotHear : Receiver → List ℕ → Type 0

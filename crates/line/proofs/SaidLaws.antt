@@ -1,4 +1,5 @@
 -- A receiver's call with a byte refuses exactly where the verdict on its kept bytes does, and says what the papers say of that verdict.
+use Rattle.frame.specs.declared.refusal.Refusal.TheVariants.{ShortMemory, OutOfRange}
 use Rattle.std.specs.Prelude.{ℕ, ◌≡◌, List, Bool, length, leb, eqb}
 use Rattle.std.proofs.Math.Path.{refl}
 use Rattle.std.proofs.Math.Bool.{true, false}
@@ -31,7 +32,7 @@ module _ (b : ℕ) (r : Receiver) (m : List ℕ) where
 
   abbrev call_by : Bool → Bool → Said
   call_by good roomy =
-      receiver_said (pick good (pick roomy (delivered (reading_with r (byte b)) r m) (refused 1 r m)) (refused 16 r m)).answer.answer
+      receiver_said (pick good (pick roomy (delivered (reading_with r (byte b)) r m) (refused ShortMemory r m)) (refused OutOfRange r m)).answer.answer
 
   -- Where the verdict refuses, the call says it.
   pub verdict-says : let verdict = verdict_on r.kept r.count b (length m) in

@@ -1,9 +1,11 @@
 -- What a call of the receiver answers, and what it leaves: document 01, "Reading of the line" and refusals 16 and 1.
-use Rattle.std.specs.Prelude.{ℕ, List, [], ◌∷◌, ◌++◌, map, Bool, length, take, replicate, leb}
+use Rattle.frame.specs.declared.refusal.Refusal.{Refusal}
+use Rattle.std.specs.Prelude.{ℕ, List, [], ◌∷◌, ◌++◌, map, Bool, length, take, replicate, leb, Err}
+use Rattle.frame.specs.declared.refusal.Refusal.TheVariants.{OutOfRange, ShortMemory}
+use Rattle.line.specs.Answer.{handed}
 use Rattle.laws.specs.Memory.{Outcome, outcome, over}
 use Rattle.laws.specs.Test.{pick}
 use Rattle.frame.specs.Frame.{most_frame}
-use Rattle.frame.specs.Refusals.{short_memory, out_of_range}
 use Rattle.line_verdict.specs.Verdict.{most_kept}
 use Rattle.line_verdict.specs.Verdict as verdict
 use Rattle.line_terms.specs.Line.{Symbol, byte}
@@ -11,7 +13,6 @@ use Rattle.line_terms.specs.Places.{joined}
 use Rattle.line_terms.specs.Scan.{LineReading, scan}
 use Rattle.line.specs.declared.Receiver.{Receiver}
 use Rattle.line.specs.declared.Received.{Received}
-use Rattle.line.specs.declared.Answer.TheVariants.{Refused, Delivered}
 
 -- Document 01's term fresh: a receiver that has heard nothing.
 unfoldable pub fresh : Receiver
@@ -29,9 +30,9 @@ within_range r = verdict.within_range r.kept r.count
 abbrev pub kept_with : Receiver → ℕ → List ℕ
 kept_with r b = kept_bytes r ++ (b ∷ [])
 
--- A refusal: its number, and all as before.
-unfoldable pub refused : ℕ → Receiver → List ℕ → Outcome Received
-refused n r m = outcome (record { receiver = r; answer = Refused n }) m
+-- A refusal, and all as before.
+unfoldable pub refused : Refusal → Receiver → List ℕ → Outcome Received
+refused n r m = outcome (record { receiver = r; answer = Err n }) m
 
 -- What the kept bytes with one symbol more read as.
 unfoldable pub reading_with : Receiver → Symbol → LineReading
@@ -47,7 +48,7 @@ delivered d r m =
     outcome
     (record {
       receiver = keeping d.kept r;
-      answer = Delivered (length (joined d.frames)) (length d.frames);
+      answer = handed (length (joined d.frames)) (length d.frames);
     })
     (over (joined d.frames) m)
 
@@ -56,5 +57,5 @@ delivered d r m =
 unfoldable pub called : Symbol → Receiver → List ℕ → Outcome Received
 called s r m =
     pick (within_range r)
-    (pick (leb most_frame (length m)) (delivered (reading_with r s) r m) (refused short_memory r m))
-    (refused out_of_range r m)
+    (pick (leb most_frame (length m)) (delivered (reading_with r s) r m) (refused ShortMemory r m))
+    (refused OutOfRange r m)

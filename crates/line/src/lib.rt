@@ -10,7 +10,7 @@ ghost use Rattle.line_terms.specs.Line.{byte, silence};
 ghost use Rattle.line.specs.Receiver.{fresh, called};
 
 use frame::MOST_FRAME;
-use frame::refusal::{OUT_OF_RANGE, SHORT_MEMORY};
+use frame::refusal::Refusal;
 use line_verdict::{MOST_KEPT, Verdict};
 
 // A receiver: the first `count` bytes of `kept` are an unfinished frame. The array beyond them is never looked at.
@@ -20,24 +20,23 @@ pub struct Receiver {
     pub count: usize,
 }
 
-// The answer to a call of the receiver.
+// What a call delivers: how many bytes of how many frames stand at the front of the output buffer.
 #[derive(Clone, Copy)]
-pub enum Answer {
-    // A refusal, by document 01's number: nothing is delivered, and nothing changed.
-    Refused(u8),
-    // How many bytes of how many frames stand at the front of the output buffer.
-    Delivered { bytes: usize, frames: usize },
+pub struct Delivered {
+    pub bytes: usize,
+    pub frames: usize,
 }
 
-// The receiver after a call, with the call's answer.
+// The receiver after a call, with the call's answer. With a refusal nothing is delivered, and nothing changed.
 #[derive(Clone, Copy)]
 pub struct Received {
     pub receiver: Receiver,
-    pub answer: Answer,
+    pub answer: Result<Delivered, Refusal>,
 }
 
 impl Receiver {
     // A receiver that has heard nothing.
+    #[tactic(auto, unfolding(crate::specs::Receiver::fresh))]
     pub fn new() -> Self
         ensures { result ≡ fresh }
     {
@@ -53,40 +52,38 @@ impl Receiver {
         ensures { outcome result out.new ≡ called (byte b) self out.old }
     {
         let count = self.count;
-        let v = line_verdict::verdict_on(&self.kept, count, b, out.len());
-        let mut answer = Answer::Delivered {
-            bytes: 0,
-            frames: 0,
-        };
-        match v {
-            Verdict::Bad => {
-                answer = Answer::Refused(OUT_OF_RANGE);
-            }
-            Verdict::Short => {
-                answer = Answer::Refused(SHORT_MEMORY);
-            }
-            Verdict::Skips => {}
+        let answer = match line_verdict::verdict_on(&self.kept, count, b, out.len()) {
+            Verdict::Bad => Err(Refusal::OutOfRange),
+            Verdict::Short => Err(Refusal::ShortMemory),
+            Verdict::Skips => Ok(Delivered {
+                bytes: 0,
+                frames: 0,
+            }),
             Verdict::StillOpen => {
                 self.kept[count] = b;
                 self.count = count + 1;
+                Ok(Delivered {
+                    bytes: 0,
+                    frames: 0,
+                })
             }
             Verdict::Whole => {
-                drain::join(&self.kept, count, b, out);
+                drain::join(&self.kept[..count], b, out);
                 self.count = 0;
-                answer = Answer::Delivered {
+                Ok(Delivered {
                     bytes: count + 1,
                     frames: 1,
-                };
+                })
             }
             Verdict::BeginsNone => {
                 let s = drain::rescan(&mut self.kept, count, b, out);
                 self.count = s.count;
-                answer = Answer::Delivered {
+                Ok(Delivered {
                     bytes: s.bytes,
                     frames: s.frames,
-                };
+                })
             }
-        }
+        };
         Received {
             receiver: self,
             answer,
@@ -101,23 +98,22 @@ impl Receiver {
         if !line_verdict::within_range(&self.kept, count) {
             return Received {
                 receiver: self,
-                answer: Answer::Refused(OUT_OF_RANGE),
+                answer: Err(Refusal::OutOfRange),
             };
         }
         if out.len() < MOST_FRAME {
             return Received {
                 receiver: self,
-                answer: Answer::Refused(SHORT_MEMORY),
+                answer: Err(Refusal::ShortMemory),
             };
         }
-        let d = drain::drain_at_silence(&self.kept, count, out);
-        let kept = self.kept;
+        let d = drain::drain_at_silence(&self.kept[..count], out);
         Received {
-            receiver: Receiver { kept, count: 0 },
-            answer: Answer::Delivered {
+            receiver: Receiver { count: 0, ..self },
+            answer: Ok(Delivered {
                 bytes: d.bytes,
                 frames: d.frames,
-            },
+            }),
         }
     }
 }

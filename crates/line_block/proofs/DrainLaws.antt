@@ -1,8 +1,9 @@
 -- How the reading of bytes goes on, by what they begin with.
 use Rattle.std.specs.Prelude.{ℕ, zero, suc, ◌+◌, ◌-◌, ◌≤◌, ◌<◌, ◌≡◌, refl, List, [], ◌∷◌, ◌++◌, Bool, true, false, length, take, drop}
 use Rattle.std.proofs.Common.{zero-le, ap, sym, ◌∙◌, append-nil, append_assoc, arith, not-suc-le-zero, le_of_suc-le-suc, add-zero, add-suc, suc-add, add-one, sub-one, length-append, length-drop, drop-drop, length-take-le}
+use Rattle.std.proofs.Math.Seq.{take-append_seam, drop-append_seam}
 use Rattle.laws.specs.Memory.{over}
-use Rattle.laws.specs.MemoryLaws.{over-length, lent-over}
+use Rattle.laws.specs.MemoryLaws.{over-length}
 use Rattle.frame.specs.Recognition.{recognised}
 use Rattle.frame.proofs.RecognitionLaws.{empty_open, whole-within, whole-frame, frame-least}
 use Rattle.frame.specs.declared.Recognised.{Recognised}
@@ -152,6 +153,11 @@ joined-more : (fs : List Found) (p : ℕ) (f : List ℕ) → joined (fs ++ (reco
 unfolding joined
 joined-more fs p f = joined-append fs (record { place = p; frame = f } ∷ []) ∙ ap (λ (l : List ℕ). joined fs ++ l) (append-nil f)
 
+-- Bytes put behind those that stand over the front stand over it with them.
+put-over : (xs ys m : List ℕ) → let o = over xs m in
+    take (length xs) o ++ (ys ++ drop (length ys) (drop (length xs) o)) ≡ over (xs ++ ys) m
+put-over xs ys m = rw (take-append_seam, drop-append_seam, drop-drop, length-append, append_assoc)
+
 module _ (line : List ℕ) (closed : Bool) (m₀ m : List ℕ) (at written count : ℕ) (d : Draining line closed m₀ m at written count) where
   -- A turn that drops a byte.
   pub draining_next : at < length line → before_silence closed (recognised (drop at line)) ≡ Neither → Draining line closed m₀ m (at + 1) written count
@@ -184,24 +190,21 @@ module _ (line : List ℕ) (closed : Bool) (m₀ m : List ℕ) (at written count
         rw n at (frame-least (whole-frame (drop at line) k e))
 
     -- A turn that delivers a frame.
-    pub draining_whole : length line ≤ length m₀ →
-        Draining line closed m₀
-        (take written m ++ (over (take k (drop at line)) (take (length m - written) (drop written m)) ++ drop (length m - written) (drop written m)))
-        (at + k) (written + k) (count + 1)
-    draining_whole roomy =
-        let f : List ℕ = take k (drop at line) in
-        let n : length f ≡ k = length-take-le k (drop at line) (whole-within (drop at line) k e) in
+    pub draining_whole : (f : List ℕ) (size : ℕ) → f ≡ take k (drop at line) → size ≡ k → length line ≤ length m₀ →
+        Draining line closed m₀ (take written m ++ (f ++ drop size (drop written m))) (at + k) (written + k) (count + 1)
+    draining_whole f w same wide roomy =
+        let n : length f ≡ k = ap length same ∙ length-take-le k (drop at line) (whole-within (drop at line) k e) in
         let fits : at + k ≤ length line = whole-fits in
         let r : written ≤ at = d.room in
         let b : written ≡ length (joined d.found) = d.bytes in
         let fs : List Found = d.found ++ (record { place = at; frame = f } ∷ []) in
         let j : joined fs ≡ joined d.found ++ f = joined-more d.found at f in
-        let now : take written m ++ (over f (take (length m - written) (drop written m)) ++ drop (length m - written) (drop written m)) ≡ over (joined fs) m₀ =
-        rw (d.memory, j) (lent-over written (joined d.found) f m₀ (sym b) (omega arith)) in
+        let long : w ≡ length f = wide ∙ sym n in
+        let now : take written m ++ (f ++ drop w (drop written m)) ≡ over (joined fs) m₀ = rw (d.memory, j, b, long) (put-over (joined d.found) f m₀) in
         let size : length (joined fs) ≡ written + k = rw (j, length-append) (omega arith) in
         record {
           found = fs;
-          split = d.split ∙ ap (behind d.found) (reading-whole at k (drop at line) closed e ∙ ap (λ (l : List ℕ). before at f (reading_from (at + k) l closed)) (drop-drop k at line)) ∙ behind_more d.found at f (reading_from (at + k) (drop (at + k) line) closed);
+          split = d.split ∙ ap (behind d.found) (reading-whole at k (drop at line) closed e ∙ (λ i. before at (sym same i) (reading_from (at + k) (drop-drop k at line i) closed))) ∙ behind_more d.found at f (reading_from (at + k) (drop (at + k) line) closed);
           within = fits;
           memory = now;
           bytes = sym size;

@@ -1,9 +1,9 @@
 -- Laws of stretches that hold no 68: they join, a search that finds the first 68 passes one, and draining goes on behind them.
 use Rattle.std.specs.Prelude.{ℕ, zero, suc, ◌+◌, ◌-◌, ◌≤◌, ◌<◌, ◌≡◌, refl, Bool, true, false, List, [], ◌∷◌, take, drop, eqb, leb}
-use Rattle.std.proofs.Common.{arith, ap, sym, subst, ◌∙◌, get_or-take, leb-true, leb-false}
+use Rattle.std.proofs.Common.{arith, ap, sym, subst, ◌∙◌, ◌++◌, length-append, drop-drop, get_or-take, leb-true, leb-false}
 use Rattle.std.proofs.Math.Nat.{add-zero}
-use Rattle.std.proofs.Math.ListN.{length, get_or, length-drop}
-use Rattle.std.proofs.Math.Seq.{get_or-drop}
+use Rattle.std.proofs.Math.ListN.{length, get_or, length-drop, get_or-append}
+use Rattle.std.proofs.Math.Seq.{get_or-drop, drop-append_seam}
 use Rattle.std.proofs.lemmas.Bool.{eqb-false}
 use Rattle.slice_bytes.specs.Place.{slice, index_of, index_after}
 use Rattle.frame.specs.Recognition.{recognised}
@@ -38,6 +38,27 @@ passes-one line at h n =
       within = omega arith;
       none = λ i l k. let e : i ≡ at = omega arith in λ w. n (rw e at w);
     }
+
+-- A stretch of so many bytes that holds no 68, with which those from a place on begin; the others begin behind it.
+module _ (line stretch rest : List ℕ) (at width : ℕ) (h : at ≤ length line) (size : length stretch ≡ width) (e : drop at line ≡ stretch ++ rest) where
+  stretch_within : at + width ≤ length line
+  stretch_within =
+      let all : length line - at ≡ length stretch + length rest = sym (length-drop at line) ∙ ap length e ∙ length-append stretch rest in
+      omega arith
+
+  pub passes_stretch : ((k : ℕ) → k < length stretch → get_or stretch k 0 ≡ 0x68 → ⊥) → Passes line at (at + width)
+  passes_stretch n = record { later = omega arith; within = stretch_within; none = none }
+    where
+      none : (i : ℕ) → at ≤ i → i < at + width → get_or line i 0 ≡ 0x68 → ⊥
+      none i a b w =
+          let k : at + (i - at) ≡ i = omega arith in
+          let there : get_or line i 0 ≡ get_or stretch (i - at) 0 =
+          sym (rw k at (get_or-drop at line (i - at) 0)) ∙ ap (λ (l : List ℕ). get_or l (i - at) 0) e ∙ get_or-append stretch rest 0 (i - at) (omega arith) in
+          n (i - at) (omega arith) (sym there ∙ w)
+
+  pub rest_behind : rest ≡ drop (at + width) line
+  rest_behind =
+      sym (rw size at (sym (drop-drop (length stretch) at line) ∙ ap (drop (length stretch)) e ∙ drop-append_seam stretch rest))
 
 -- Before the first b in a list there is none.
 index_after_lem : (b x : ℕ) (xs : List ℕ) (i : ℕ) (t : Bool) → eqb x b ≡ t → ((j : ℕ) → j < index_of b xs → get_or xs j 0 ≡ b → ⊥) →

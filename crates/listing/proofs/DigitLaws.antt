@@ -1,9 +1,9 @@
--- Laws of digits that are stored from a place on, one byte's behind another's: the start of such a run, one byte more, and the order in
--- which the bytes are passed.
-use Rattle.std.specs.Prelude.{ℕ, suc, ◌+◌, ◌-◌, ◌*◌, ◌≤◌, ◌<◌, ◌≡◌, refl, length, take, drop, set, get_or}
-use Rattle.std.proofs.Common.{ap, sym, ◌∙◌, add-zero, add-one, arith, length-drop, length-take-le, take-suc, drop-cons}
-use mathlib.Core.List.{List, [], ◌∷◌, ◌++◌, map, reverse, reverse-cons, append-nil, append_assoc, map-append}
-use Rattle.std.proofs.lemmas.List.{length-map, length-reverse}
+-- Laws of digits that are stored from a place on, one byte's behind another's: the start of such a run, one byte more, and how many
+-- bytes are passed.
+use Rattle.std.specs.Prelude.{ℕ, suc, ◌+◌, ◌*◌, ◌≤◌, ◌<◌, ◌≡◌, refl, length, take, set, get_or}
+use Rattle.std.proofs.Common.{ap, sym, ◌∙◌, add-zero, add-one, arith, length-take-le, take-suc}
+use mathlib.Core.List.{List, [], ◌∷◌, ◌++◌, map, append-nil, append_assoc, map-append}
+use Rattle.std.proofs.lemmas.List.{length-map}
 use Rattle.std.proofs.lemmas.List.Edits.{sets}
 use Rattle.std.proofs.Math.Seq.{length-sets}
 use Rattle.listing.specs.Text.{hex_of, hex_all}
@@ -43,17 +43,6 @@ digits-next {m} {n} {n'} {start} {at} {passed} {passed'} b d place stored more =
       kept = ap length stored ∙ length-sets n at (hex_of b) ∙ d.kept;
       so_far = rw (stored, d.so_far, ← more, hex_next) (run_on m (hex_all passed) (hex_of b) start at behind);
     }
-
--- From the last byte on: one byte more, just before those that are passed.
-pub backward_next : (xs : List ℕ) (left : ℕ) → 0 < left → left ≤ length xs → reverse (drop left xs) ++ (get_or xs (left - 1) 0 ∷ []) ≡ reverse (drop (left - 1) xs)
-backward_next xs left h k =
-    let next : suc (left - 1) ≡ left = omega arith in
-    let below : left - 1 < length xs = omega arith in
-    rw (drop-cons xs (left - 1) 0 below, next) (sym (reverse-cons (get_or xs (left - 1) 0) (drop left xs)))
-
--- So many bytes are passed.
-pub backward_length : (xs : List ℕ) (left : ℕ) → length (reverse (drop left xs)) ≡ length xs - left
-backward_length xs left = rw (length-reverse, length-drop)
 
 -- From the first byte on: one byte more, through `f`.
 pub forward-next : (f : ℕ → ℕ) (xs : List ℕ) (i : ℕ) → i < length xs → map f (take i xs) ++ (f (get_or xs i 0) ∷ []) ≡ map f (take (i + 1) xs)

@@ -1,7 +1,11 @@
 -- A line listed in blocks, cut anywhere: one theorem over every list of steps from a buffer that keeps nothing. In all they write exactly the lines of the
 -- frames certain after the line that they bring, in rising place, and each step the lines of those that became certain with it. A step that
 -- read nothing is at the end of the input, and the end is a silence.
-use Rattle.std.specs.Prelude.{ℕ, ◌+◌, ◌≤◌, ◌≡◌, refl, ◌↔◌, List, [], ◌∷◌, ◌++◌, map, length, take, drop}
+use Rattle.std.specs.Prelude.{ℕ, ◌+◌, ◌≤◌, ◌≡◌, refl, ◌↔◌, List, [], ◌∷◌, ◌++◌, map, length, take, drop, Err, Result, Ok}
+use Rattle.listing.specs.declared.step.StepListed.{StepListed}
+use Rattle.frame.specs.declared.refusal.Refusal.{Refusal}
+use Rattle.frame.specs.declared.refusal.Refusal.TheVariants.{ShortMemory}
+use Rattle.listing.specs.StepListed.{step_lists}
 use Rattle.std.proofs.Common.{arith, ap, sym, subst, ◌∙◌, inl, inr, append_assoc, length-drop, length-take-le}
 use Rattle.std.proofs.Math.Decide.{dec_lt}
 use Rattle.std.proofs.lemmas.List.{map-append}
@@ -26,8 +30,6 @@ use Rattle.listing.specs.Lines.{lines_of}
 use Rattle.listing.proofs.LinesLaws.{lines-append}
 use Rattle.listing.specs.Step.{is_end, TooShort, listing_outcome, step_listed}
 use Rattle.listing.proofs.StepLaws.{none_end, some_no_end, ListStepping, declines, lists, list_stepping}
-use Rattle.listing.specs.declared.step.StepListed.{StepListed}
-use Rattle.listing.specs.declared.step.StepListed.TheVariants.{Refused, Listed}
 
 -- A call of the step: how many bytes it was told are kept and how many are read behind them; the line's buffer and both memories lent, what it
 -- answered, and all three as they stood then.
@@ -37,7 +39,7 @@ pub record ListCall : Type 0 where
   pub buffer : List ℕ
   pub lent_frames : List ℕ
   pub lent_text : List ℕ
-  pub answer : StepListed
+  pub answer : Result StepListed Refusal
   pub left_buffer : List ℕ
   pub left_frames : List ℕ
   pub left_text : List ℕ
@@ -56,9 +58,9 @@ abbrev pub brought_by : ListCall → List Symbol
 brought_by c = brought (new_bytes c.kept c.read c.buffer)
 
 -- What an answer says of the bytes kept.
-abbrev pub says_of : StepListed → Says
-says_of (Refused n) = refuses
-says_of (Listed text kept) = keeps kept
+abbrev pub says_of : Result StepListed Refusal → Says
+says_of (Err n) = refuses
+says_of (Ok listed) = keeps listed.kept
 
 -- A step of the listing as a call over the line's buffer.
 abbrev pub on_buffer : ListCall → BufferCall
@@ -72,9 +74,9 @@ abbrev pub kept_of : List ListCall → List ℕ
 kept_of calls = kept_after [] (map on_buffer calls)
 
 -- What an answer lists: as many bytes as it says, from the front of the text memory; nothing if refused.
-abbrev pub text_by : StepListed → List ℕ → List ℕ
-text_by (Refused n) left = []
-text_by (Listed text kept) left = take text left
+abbrev pub text_by : Result StepListed Refusal → List ℕ → List ℕ
+text_by (Err n) left = []
+text_by (Ok listed) left = take listed.text left
 
 -- The whole text.
 abbrev pub listed_text : List ListCall → List ℕ
@@ -88,7 +90,7 @@ IsShort c = TooShort (c.kept + c.read) c.buffer c.lent_frames c.lent_text
 -- Exactly then it is refused, with 1, and nothing changes.
 pub record ListRefusal (c : ListCall) : Type 0 where
   pub refused : IsRefused (says_of c.answer) ↔ IsShort c
-  pub number : IsShort c → c.answer ≡ Refused 1
+  pub number : IsShort c → c.answer ≡ Err ShortMemory
   pub buffer : IsShort c → LeftAlone c.buffer c.left_buffer
   pub frames : IsShort c → LeftAlone c.lent_frames c.left_frames
   pub text : IsShort c → LeftAlone c.lent_text c.left_text
@@ -101,7 +103,7 @@ pub record StepLists (line : List Symbol) (c : ListCall) : Type 1 where
   pub kept : List ℕ
   pub rest : RestOf (line ++ brought_by c) kept
   pub most : length kept ≤ 211
-  pub answer : c.answer ≡ Listed (length (lines_of (frames_of new.frames))) (length kept)
+  pub answer : c.answer ≡ step_lists (length (lines_of (frames_of new.frames))) (length kept)
   pub buffer : c.left_buffer ≡ over kept c.buffer
   pub frames : c.left_frames ≡ over (joined new.frames) c.lent_frames
   pub text : c.left_text ≡ over (lines_of (frames_of new.frames)) c.lent_text
@@ -184,7 +186,7 @@ step-lists line c h enough n = go (list_stepping h)
           kept = (step_reading c.kept c.read (is_end c.read) c.buffer).kept;
           rest = rw (same-reading c enough) n.rest;
           most = rest-most (take (c.kept + c.read) c.buffer) (is_end c.read);
-          answer = a ∙ (λ i. Listed (length (lines_of (found i))) (length (step_reading c.kept c.read (is_end c.read) c.buffer).kept));
+          answer = a ∙ (λ i. step_lists (length (lines_of (found i))) (length (step_reading c.kept c.read (is_end c.read) c.buffer).kept));
           buffer = b;
           frames = f ∙ ap (λ (l : List ℕ). over l c.lent_frames) (joined_same _ _ found);
           text = t ∙ ap (λ (l : List (List ℕ)). over (lines_of l) c.lent_text) found;

@@ -1,5 +1,11 @@
 -- What the papers say of the answers of the listing, when it refuses, and that buffer and memory are then as they were.
-use Rattle.std.specs.Prelude.{ℕ, ◌+◌, ◌*◌, ◌≤◌, ◌<◌, List, [], ◌∷◌, ◌⊎◌, length, leb}
+use Rattle.std.specs.Prelude.{ℕ, ◌+◌, ◌*◌, ◌≤◌, ◌<◌, List, [], ◌∷◌, ◌⊎◌, length, leb, Err, Ok, Result}
+use Rattle.frame.specs.Refusals.{number_of}
+use Rattle.listing.specs.declared.step.StepListed.{StepListed}
+use Rattle.frame.specs.declared.refusal.Refusal.{Refusal}
+use Rattle.frame.specs.declared.refusal.Refusal.TheVariants.{NotOneFrame, ShortMemory}
+use Rattle.listing.specs.declared.ListError.{ListError}
+use Rattle.listing.specs.declared.ListError.TheVariants.{NotAFrame, TooLittleMemory}
 use Rattle.std.proofs.Common.{sym, ◌∙◌, inl, inr, arith, leb-true, leb-false}
 use Rattle.std.proofs.lemmas.Bool.{false≢true}
 use Rattle.laws.specs.Memory.{Outcome}
@@ -8,24 +14,19 @@ use Rattle.laws.specs.TestLaws.{pick_cases}
 use Rattle.frame.specs.Frame.{Frame}
 use Rattle.frame.specs.Recognition.{exactly_one}
 use Rattle.frame.proofs.RecognitionLaws.{one-frame, frame-one}
-use Rattle.frame.specs.Refusals.{short_memory, not_one_frame}
 use Rattle.listing.specs.Text.{text_of, listing}
 use Rattle.listing.specs.Step.{ListingOutcome, reading_listed, TooShort, step_listed}
-use Rattle.listing.specs.declared.Listed.{Listed}
-use Rattle.listing.specs.declared.Listed.TheVariants.{Length, NotAFrame, TooLittleMemory}
-use Rattle.listing.specs.declared.step.StepListed.{StepListed}
-use Rattle.listing.specs.declared.step.StepListed.TheVariants as step
 
 -- Bytes that are not exactly one frame are 2, too little memory is 1.
-abbrev pub listed_said : Listed → Said
-listed_said (Length n) = values (n ∷ [])
-listed_said NotAFrame = refusal not_one_frame
-listed_said TooLittleMemory = refusal short_memory
+abbrev pub listed_said : Result ℕ ListError → Said
+listed_said (Ok n) = values (n ∷ [])
+listed_said (Err NotAFrame) = refusal (number_of NotOneFrame)
+listed_said (Err TooLittleMemory) = refusal (number_of ShortMemory)
 
 -- How many bytes of text, and how many bytes are kept; or a refusal.
-abbrev pub step_listed_said : StepListed → Said
-step_listed_said (step.Refused n) = refusal n
-step_listed_said (step.Listed text kept) = values (text ∷ kept ∷ [])
+abbrev pub step_listed_said : Result StepListed Refusal → Said
+step_listed_said (Err n) = refusal (number_of n)
+step_listed_said (Ok listed) = values (listed.text ∷ listed.kept ∷ [])
 
 -- The bytes are not exactly one frame, or the memory is shorter than its line.
 abbrev pub CannotList : List ℕ → List ℕ → Type 0
@@ -39,7 +40,7 @@ listing-refuses frame m =
     (λ short. refuses (inr (leb-false _ _ short)) tt))
     (λ none. refuses (inl (λ w. false≢true (sym none ∙ frame-one frame w))) tt)
   where
-    P : Outcome Listed → Type 0
+    P : Outcome (Result ℕ ListError) → Type 0
     P o = Refuses (listed_said o.answer) (CannotList frame m) m o.memory
 
     can : Frame frame → length (text_of frame) ≤ length m → CannotList frame m → ⊥

@@ -1,6 +1,13 @@
 -- Laws of a step of the listing: what its reading delivers is cut into the frames found again, what each way out comes to, and what an answer
 -- says of the step.
-use Rattle.std.specs.Prelude.{ℕ, ◌+◌, ◌*◌, ◌≤◌, ◌<◌, ◌≡◌, refl, Bool, true, false, take, leb}
+use Rattle.recording.specs.declared.StepRead.{StepRead}
+use Rattle.listing.specs.declared.step.StepListed.{StepListed}
+use Rattle.laws.specs.ResultLaws.{ok_same, err_same}
+use Rattle.std.specs.Prelude.{ℕ, ◌+◌, ◌*◌, ◌≤◌, ◌<◌, ◌≡◌, refl, Bool, true, false, take, leb, Err, Result}
+use Rattle.frame.specs.declared.refusal.Refusal.{Refusal}
+use Rattle.frame.specs.declared.refusal.Refusal.TheVariants.{ShortMemory}
+use Rattle.listing.specs.StepListed.{step_lists}
+use Rattle.recording.specs.Answer.{step_gives}
 use Rattle.std.proofs.Math.Path.{ap}
 use Rattle.std.proofs.Common.{sym, subst, ◌∙◌, inl, inr, arith, length-append, take_at, length-take-le}
 use mathlib.Core.List.{List}
@@ -17,12 +24,9 @@ use Rattle.line_block.specs.Block.{block_reading}
 use Rattle.line_block.proofs.BlockLaws.{block-few, rest-most}
 use Rattle.recording.specs.Step.{step_outcome, step_reading, step_read}
 use Rattle.recording.proofs.StepLaws.{Stepping, ignores, delivers, stepping}
-use Rattle.recording.specs.declared.StepAnswer.TheVariants as recorded
 use Rattle.listing.specs.Lines.{lines_of}
 use Rattle.listing.proofs.LinesLaws.{lines_twice}
 use Rattle.listing.specs.Step.{is_end, TooShort, ListingOutcome, listing_outcome, reading_listed, step_listed}
-use Rattle.listing.specs.declared.step.StepListed.{StepListed}
-use Rattle.listing.specs.declared.step.StepListed.TheVariants.{Refused, Listed}
 
 -- A read that brought no bytes is at the end of the input, and one that brought some is not.
 pub none_end : (read : ℕ) → read ≡ 0 → is_end read ≡ true
@@ -56,29 +60,29 @@ module _ (block : List ℕ) (ended : Bool) where
 
 -- Where memory is too short a step is refused.
 pub list_short : (kept read : ℕ) (buffer frames text : List ℕ) → TooShort (kept + read) buffer frames text →
-    listing_outcome (Refused 1) buffer frames text ≡ step_listed kept read buffer frames text
+    listing_outcome (Err ShortMemory) buffer frames text ≡ step_listed kept read buffer frames text
 unfolding step_listed
 list_short kept read buffer frames text (inl h) = rw (lt-leb _ _ h)
 list_short kept read buffer frames text (inr (inl h)) = rw (lt-leb _ _ h) (sym (pick_same (leb (2 * (kept + read)) (length text))))
 list_short kept read buffer frames text (inr (inr h)) =
-    rw (lt-leb _ _ h, pick_same (leb (kept + read) (length buffer)) {a = listing_outcome (Refused 1) buffer frames text})
+    rw (lt-leb _ _ h, pick_same (leb (kept + read) (length buffer)) {a = listing_outcome (Err ShortMemory) buffer frames text})
     (sym (pick_same (leb (2 * (kept + read)) (length text))))
 
 module _ (kept read : ℕ) (buffer frames text : List ℕ) {buffer₁ frames₁ : List ℕ} (fits : 2 * (kept + read) ≤ length text) where
   -- A reading that is refused.
-  pub list_refused : {n : ℕ} → step_outcome (recorded.Refused n) buffer₁ frames₁ ≡ step_read kept read (is_end read) buffer frames →
-      listing_outcome (Refused n) buffer₁ frames₁ text ≡ step_listed kept read buffer frames text
+  pub list_refused : {n : Refusal} → step_outcome (Err n) buffer₁ frames₁ ≡ step_read kept read (is_end read) buffer frames →
+      listing_outcome (Err n) buffer₁ frames₁ text ≡ step_listed kept read buffer frames text
   list_refused {n} e = go (stepping e)
     where
-      go : Stepping kept read (is_end read) buffer frames (recorded.Refused n) buffer₁ frames₁ →
-          listing_outcome (Refused n) buffer₁ frames₁ text ≡ step_listed kept read buffer frames text
+      go : Stepping kept read (is_end read) buffer frames (Err n) buffer₁ frames₁ →
+          listing_outcome (Err n) buffer₁ frames₁ text ≡ step_listed kept read buffer frames text
       go (ignores w a b m) =
-          let one : n ≡ 1 = cc in
+          let one : n ≡ ShortMemory = err_same a in
           rw (one, b, m) (list_short kept read buffer frames text (inr w))
       go (delivers w v a b m) = let z : ◌≡◌ {A = ℕ} 0 1 = cc in absurd (omega arith)
 
   -- A reading that is not refused.
-  module _ {bytes count left : ℕ} (e : step_outcome (recorded.Delivered bytes count left) buffer₁ frames₁ ≡ step_read kept read (is_end read) buffer frames) where
+  module _ {bytes count left : ℕ} (e : step_outcome (step_gives bytes count left) buffer₁ frames₁ ≡ step_read kept read (is_end read) buffer frames) where
     -- What it has delivered and kept.
     record HasRead : Type 0 where
       here : kept + read ≤ length buffer
@@ -91,9 +95,9 @@ module _ (kept read : ℕ) (buffer frames text : List ℕ) {buffer₁ frames₁ 
     has_read : HasRead
     has_read = go (stepping e)
       where
-        go : Stepping kept read (is_end read) buffer frames (recorded.Delivered bytes count left) buffer₁ frames₁ → HasRead
+        go : Stepping kept read (is_end read) buffer frames (step_gives bytes count left) buffer₁ frames₁ → HasRead
         go (ignores w a b m) = let z : ◌≡◌ {A = ℕ} 0 1 = cc in absurd (omega arith)
-        go (delivers w v a b m) = record { here = w; room = v; size = cc; keeps = cc; front = b; memory = m }
+        go (delivers w v a b m) = record { here = w; room = v; size = ap (λ (step : StepRead). step.bytes) (ok_same a); keeps = ap (λ (step : StepRead). step.kept) (ok_same a); front = b; memory = m }
 
     block_size : length (take (kept + read) buffer) ≡ kept + read
     block_size = length-take-le (kept + read) buffer has_read.here
@@ -117,7 +121,7 @@ module _ (kept read : ℕ) (buffer frames text : List ℕ) {buffer₁ frames₁ 
     -- Written, they are what the step comes to.
     pub list_delivers : {text₁ : List ℕ} {used : ℕ} →
         outcome used text₁ ≡ outcome (length (lines_of (cut (take bytes frames₁)))) (over (lines_of (cut (take bytes frames₁))) text) →
-        listing_outcome (Listed used left) buffer₁ frames₁ text₁ ≡ step_listed kept read buffer frames text
+        listing_outcome (step_lists used left) buffer₁ frames₁ text₁ ≡ step_listed kept read buffer frames text
     unfolding step_listed reading_listed
     list_delivers {text₁} {used} w =
         let cuts : cut (take bytes frames₁) ≡ frames_of (step_reading kept read (is_end read) buffer).frames = ap cut delivered-front ∙ block-cut (take (kept + read) buffer) (is_end read) in
@@ -126,17 +130,17 @@ module _ (kept read : ℕ) (buffer frames text : List ℕ) {buffer₁ frames₁ 
         rw (le-leb _ _ fits, le-leb _ _ has_read.here, le-leb _ _ has_read.room) (cc (has_read.front, has_read.memory, has_read.keeps))
 
 -- What a step comes to: refused with 1 where memory is too short, and all as before; else what its bytes read as is listed and kept.
-pub data ListStepping (kept read : ℕ) (buffer frames text : List ℕ) (answer : StepListed) (buffer₁ frames₁ text₁ : List ℕ) : Type 0 where
-  declines : TooShort (kept + read) buffer frames text → answer ≡ Refused 1 → buffer₁ ≡ buffer → frames₁ ≡ frames → text₁ ≡ text →
+pub data ListStepping (kept read : ℕ) (buffer frames text : List ℕ) (answer : Result StepListed Refusal) (buffer₁ frames₁ text₁ : List ℕ) : Type 0 where
+  declines : TooShort (kept + read) buffer frames text → answer ≡ Err ShortMemory → buffer₁ ≡ buffer → frames₁ ≡ frames → text₁ ≡ text →
       ListStepping kept read buffer frames text answer buffer₁ frames₁ text₁
   lists : (TooShort (kept + read) buffer frames text → ⊥) →
-      answer ≡ Listed (length (lines_of (frames_of (step_reading kept read (is_end read) buffer).frames))) (length (step_reading kept read (is_end read) buffer).kept) →
+      answer ≡ step_lists (length (lines_of (frames_of (step_reading kept read (is_end read) buffer).frames))) (length (step_reading kept read (is_end read) buffer).kept) →
       buffer₁ ≡ over (step_reading kept read (is_end read) buffer).kept buffer →
       frames₁ ≡ over (joined (step_reading kept read (is_end read) buffer).frames) frames →
       text₁ ≡ over (lines_of (frames_of (step_reading kept read (is_end read) buffer).frames)) text →
       ListStepping kept read buffer frames text answer buffer₁ frames₁ text₁
 
-pub list_stepping : {kept read : ℕ} {buffer frames text buffer₁ frames₁ text₁ : List ℕ} {answer : StepListed} →
+pub list_stepping : {kept read : ℕ} {buffer frames text buffer₁ frames₁ text₁ : List ℕ} {answer : Result StepListed Refusal} →
     listing_outcome answer buffer₁ frames₁ text₁ ≡ step_listed kept read buffer frames text →
     ListStepping kept read buffer frames text answer buffer₁ frames₁ text₁
 unfolding step_listed reading_listed
@@ -164,7 +168,7 @@ list_stepping {kept} {read} {buffer} {frames} {text} {buffer₁} {frames₁} {te
         lists w (ap (λ (o : ListingOutcome). o.answer) e) (ap (λ (o : ListingOutcome). o.buffer) e) (ap (λ (o : ListingOutcome). o.frames) e)
         (ap (λ (o : ListingOutcome). o.text) e)
 
-    bad : TooShort (kept + read) buffer frames text → P (listing_outcome (Refused 1) buffer frames text)
+    bad : TooShort (kept + read) buffer frames text → P (listing_outcome (Err ShortMemory) buffer frames text)
     bad w e =
         declines w (ap (λ (o : ListingOutcome). o.answer) e) (ap (λ (o : ListingOutcome). o.buffer) e) (ap (λ (o : ListingOutcome). o.frames) e)
         (ap (λ (o : ListingOutcome). o.text) e)
@@ -175,17 +179,17 @@ pub record ListedWithin (text : List ℕ) (used left : ℕ) : Type 0 where
   pub most : left ≤ 211
 
 pub listed-within : (kept read : ℕ) (buffer frames text : List ℕ) {buffer₁ frames₁ text₁ : List ℕ} {used left : ℕ} →
-    listing_outcome (Listed used left) buffer₁ frames₁ text₁ ≡ step_listed kept read buffer frames text → ListedWithin text₁ used left
+    listing_outcome (step_lists used left) buffer₁ frames₁ text₁ ≡ step_listed kept read buffer frames text → ListedWithin text₁ used left
 listed-within kept read buffer frames text {buffer₁} {frames₁} {text₁} {used} {left} e = go (list_stepping e)
   where
     lines : List ℕ
     lines = lines_of (frames_of (step_reading kept read (is_end read) buffer).frames)
 
-    go : ListStepping kept read buffer frames text (Listed used left) buffer₁ frames₁ text₁ → ListedWithin text₁ used left
+    go : ListStepping kept read buffer frames text (step_lists used left) buffer₁ frames₁ text₁ → ListedWithin text₁ used left
     go (declines w a b f t) = let z : ◌≡◌ {A = ℕ} 0 1 = cc in absurd (omega arith)
     go (lists w a b f t) =
-        let long : used ≡ length lines = cc in
-        let keeps : left ≡ length (step_reading kept read (is_end read) buffer).kept = cc in
+        let long : used ≡ length lines = ap (λ (step : StepListed). step.text) (ok_same a) in
+        let keeps : left ≡ length (step_reading kept read (is_end read) buffer).kept = ap (λ (step : StepListed). step.kept) (ok_same a) in
         record {
           memory = rw t (simp length-append (omega arith));
           most = omega (arith, rest-most (take (kept + read) buffer) (is_end read));

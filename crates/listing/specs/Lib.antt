@@ -1,3 +1,4 @@
+pub mod StepListed
 pub mod Text
 pub mod Lines
 pub mod Step

@@ -1,11 +1,11 @@
 -- Document 01, "The listing program": the line that is written for a frame, as a list of bytes.
-use Rattle.std.specs.Prelude.{ℕ, ◌+◌, ◌*◌, ◌/◌, ◌%◌, ◌≡◌, List, [], ◌∷◌, ◌++◌, reverse, length, leb, eqb}
+use Rattle.std.specs.Prelude.{ℕ, ◌+◌, ◌*◌, ◌/◌, ◌%◌, ◌≡◌, List, [], ◌∷◌, ◌++◌, reverse, length, leb, eqb, Err, Ok, Result}
+use Rattle.listing.specs.declared.ListError.{ListError}
+use Rattle.listing.specs.declared.ListError.TheVariants.{NotAFrame, TooLittleMemory}
 use Rattle.laws.specs.Memory.{Outcome, outcome, over}
 use Rattle.laws.specs.Test.{pick}
 use Rattle.frame.specs.Frame.{address_of, control_of, length_of, data_of}
 use Rattle.frame.specs.Recognition.{exactly_one}
-use Rattle.listing.specs.declared.Listed.{Listed}
-use Rattle.listing.specs.declared.Listed.TheVariants.{Length, NotAFrame, TooLittleMemory}
 
 -- The capital hexadecimal digit of a half byte.
 unfoldable pub digit : ℕ → ℕ
@@ -33,13 +33,13 @@ unfoldable pub text_of : List ℕ → List ℕ
 text_of frame = head_of frame ++ (tail_of frame ++ (0x0A ∷ []))
 
 -- Bytes that are not exactly one frame, or too little memory: nothing is written. Else the text, over the front of the memory.
-unfoldable pub listing : List ℕ → List ℕ → Outcome Listed
+unfoldable pub listing : List ℕ → List ℕ → Outcome (Result ℕ ListError)
 listing frame m =
     pick (exactly_one frame)
     (pick (leb (length (text_of frame)) (length m))
-    (outcome (Length (length (text_of frame))) (over (text_of frame) m))
-    (outcome TooLittleMemory m))
-    (outcome NotAFrame m)
+    (outcome (Ok (length (text_of frame))) (over (text_of frame) m))
+    (outcome (Err TooLittleMemory) m))
+    (outcome (Err NotAFrame) m)
 
 -- The text's length, its newline among it, by L.
 unfoldable pub text_length : ℕ → ℕ

@@ -4,17 +4,15 @@
 
 pub mod step;
 
-ghost use Rattle.std.specs.Prelude.{◌≡◌, map, reverse, ◌∷◌, ◌++◌, [], ◌+◌, ◌*◌, ◌≤◌, ◌<◌, length};
+ghost use Rattle.std.specs.Prelude.{◌≡◌, ℕ, map, ◌∷◌, ◌++◌, [], ◌+◌, ◌*◌, ◌≤◌, ◌<◌, length};
 ghost use Rattle.std.proofs.lemmas.List.Edits.{sets};
-ghost use Rattle.frame.specs.Frame.{unmasked, length_of};
+ghost use Rattle.frame.specs.Frame.{length_of};
 ghost use Rattle.laws.specs.Memory.{outcome, over};
 ghost use Rattle.listing.specs.Text.{Spans, digit, hex_of, hex_all, head_of, tail_of, text_of, text_length, listing};
 
-// The answer to the listing of a frame; only `Length` leaves bytes in the output buffer.
+// Why a frame is not listed; the output buffer stays as it was.
 #[derive(Clone, Copy)]
-pub enum Listed {
-    // The text's length, its newline among it.
-    Length(usize),
+pub enum ListError {
     // The bytes are not exactly one frame.
     NotAFrame,
     // An output buffer shorter than the text.
@@ -27,10 +25,10 @@ fn hex_digit(half: u8) -> u8
     requires { half < 16 }
     ensures { result ≡ digit half }
 {
-    if half <= 9 {
-        return 48 + half;
+    match half {
+        0..=9 => b'0' + half,
+        _ => b'A' - 10 + half,
     }
-    55 + half
 }
 
 // The two digits of a byte, high half first, from place `at` on.
@@ -43,33 +41,15 @@ fn write_byte(b: u8, at: usize, out: &mut [u8])
     out[at + 1] = hex_digit(b % 16);
 }
 
-// The digits of the bytes of an address field, its last byte first, at the front of the output buffer.
-fn write_address(address: &[u8], out: &mut [u8])
-    requires { 2 * length address.now ≤ length out.old }
-    ensures { out.new ≡ sets out.old 0 (hex_all (reverse address.now)) }
+// The digits of bytes, each through a function, from place `start` on.
+fn write_digits<F: Fn(u8) -> u8>(bytes: &[u8], through: F, start: usize, out: &mut [u8])
+    requires room { start + 2 * length bytes.now ≤ length out.old }
+    requires callable { F.IsAlwaysCallable through }
+    ensures { (f : ℕ → ℕ) → ((b r : ℕ) → F.post through b r → r ≡ f b) → out.new ≡ sets out.old start (hex_all (map f bytes.now)) }
 {
-    let mut left = address.len();
-    let mut at = 0;
-    while 0 < left {
-        left -= 1;
-        write_byte(address[left], at, out);
-        at += 2;
-    }
-}
-
-// The digits of the data that a data field carries, unmasked, from place `start` on.
-fn write_data(field: &[u8], start: usize, out: &mut [u8])
-    requires { start + 2 * length field.now ≤ length out.old }
-    ensures { out.new ≡ sets out.old start (hex_all (map unmasked field.now)) }
-{
-    let mut i = 0;
-    let mut at = start;
-    while i < field.len() {
-        let sent = field[i];
-        let payload = frame_parts::unmask(sent);
-        write_byte(payload, at, out);
-        at += 2;
-        i += 1;
+    // By place, since no proof knows behind a loop what was written through `chunks_exact_mut`.
+    for (i, b) in bytes.iter().enumerate() {
+        write_byte(through(*b), start + 2 * i, out);
     }
 }
 
@@ -78,7 +58,9 @@ fn write_head(frame: &[u8], out: &mut [u8])
     requires { Spans frame.now × (15 ≤ length out.old) }
     ensures { out.new ≡ sets out.old 0 (head_of frame.now) }
 {
-    write_address(&frame[1..7], out);
+    let mut address = frame_parts::address_of(frame);
+    address.reverse();
+    write_digits(&address, |b| b, 0, out);
     out[12] = b' ';
     write_byte(frame[8], 13, out);
 }
@@ -96,7 +78,7 @@ fn write_tail(frame: &[u8], out: &mut [u8]) -> usize
     }
     let end = 10 + count;
     out[15] = b' ';
-    write_data(&frame[10..end], 16, out);
+    write_digits(&frame[10..end], frame_parts::unmask, 16, out);
     let last = 16 + 2 * count;
     out[last] = b'\n';
     last + 1
@@ -107,10 +89,10 @@ fn write_tail(frame: &[u8], out: &mut [u8]) -> usize
 fn text_length(data_length: u8) -> usize
     ensures { result ≡ text_length data_length }
 {
-    if data_length == 0 {
-        return 16;
+    match data_length {
+        0 => 16,
+        _ => 17 + 2 * data_length as usize,
     }
-    17 + 2 * data_length as usize
 }
 
 // Writes the line of a frame, with its newline, to the front of the output buffer, and returns how many bytes it has.
@@ -122,17 +104,18 @@ pub(crate) fn write_line(frame: &[u8], out: &mut [u8]) -> usize
     write_tail(frame, out)
 }
 
-// Lists bytes that have to be exactly one frame: writes its line to the front of the output buffer.
-pub fn list_frame(frame: &[u8], out: &mut [u8]) -> Listed
+// Lists bytes that have to be exactly one frame: writes its line to the front of the output buffer, and answers the length of that text,
+// its newline among it.
+pub fn list_frame(frame: &[u8], out: &mut [u8]) -> Result<usize, ListError>
     ensures { outcome result out.new ≡ listing frame.now out.old }
 {
     if !frame::is_frame(frame) {
-        return Listed::NotAFrame;
+        return Err(ListError::NotAFrame);
     }
     let n = text_length(frame[9]);
     if out.len() < n {
-        return Listed::TooLittleMemory;
+        return Err(ListError::TooLittleMemory);
     }
     write_line(frame, out);
-    Listed::Length(n)
+    Ok(n)
 }

@@ -9,17 +9,14 @@ ghost use Rattle.listing.specs.Step.{listing_outcome, step_listed};
 
 use crate::write_line;
 use frame::delivery::next_end;
-use frame::refusal::SHORT_MEMORY;
-use recording::StepAnswer;
+use frame::refusal::Refusal;
 
-// The answer to a step of the listing.
+// What a step of the listing gives: how many bytes of text stand at the front of its buffer, and how many bytes are kept at the front of
+// the line's buffer, at most 211.
 #[derive(Clone, Copy)]
-pub enum StepListed {
-    // A refusal, by document 01's number: nothing is listed, and nothing changed.
-    Refused(u8),
-    // How many bytes of text stand at the front of its buffer, and how many bytes are kept at the front of the line's buffer, at
-    // most 211.
-    Listed { text: usize, kept: usize },
+pub struct StepListed {
+    pub text: usize,
+    pub kept: usize,
 }
 
 // Writes a line for each of the frames, which stand end to end, to the front of the output buffer, and returns how many
@@ -28,6 +25,7 @@ fn write_lines(frames: &[u8], out: &mut [u8]) -> usize
     requires { EndToEnd frames.now × (2 * length frames.now ≤ length out.old) }
     ensures { outcome result out.new ≡ outcome (length (lines_of (cut frames.now))) (over (lines_of (cut frames.now)) out.old) }
 {
+    // No index loop: the place steps by the length that each frame says it has.
     let mut at = 0;
     let mut used = 0;
     while at < frames.len() {
@@ -41,7 +39,7 @@ fn write_lines(frames: &[u8], out: &mut [u8]) -> usize
 // Reads the first `kept` bytes of the buffer, the rest of the step before, and the `read` bytes behind them as a block of the
 // line, and writes a line for each frame that became certain to the front of `text`, by way of `frames`, where the frames stand
 // end to end. A step that read no bytes is at the end of the input, which is taken as a silence. Refused with 1 where the
-// buffer or `frames` is shorter than these bytes, or `text` than twice these bytes. The unfinished rest is moved to the
+// buffer or `frames` is shorter than these bytes, or `text` than twice these bytes: nothing is listed, and nothing changed. The unfinished rest is moved to the
 // front of the buffer; beyond what is written all three stay as they were.
 pub fn list_step(
     buffer: &mut [u8],
@@ -49,31 +47,20 @@ pub fn list_step(
     read: usize,
     frames: &mut [u8],
     text: &mut [u8],
-) -> StepListed
+) -> Result<StepListed, Refusal>
     ensures { listing_outcome result buffer.new frames.new text.new ≡ step_listed kept read buffer.old frames.old text.old }
 {
     let half = text.len() / 2;
     if half < kept {
-        return StepListed::Refused(SHORT_MEMORY);
+        return Err(Refusal::ShortMemory);
     }
     if half - kept < read {
-        return StepListed::Refused(SHORT_MEMORY);
+        return Err(Refusal::ShortMemory);
     }
-    let answer = recording::read_step(buffer, kept, read, read == 0, frames);
-    match answer {
-        StepAnswer::Refused(number) => {
-            return StepListed::Refused(number);
-        }
-        StepAnswer::Delivered {
-            bytes,
-            frames: _,
-            kept: left,
-        } => {
-            let used = write_lines(&frames[..bytes], text);
-            return StepListed::Listed {
-                text: used,
-                kept: left,
-            };
-        }
-    }
+    let step = recording::read_step(buffer, kept, read, read == 0, frames)?;
+    let used = write_lines(&frames[..step.bytes], text);
+    Ok(StepListed {
+        text: used,
+        kept: step.kept,
+    })
 }

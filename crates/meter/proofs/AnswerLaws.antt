@@ -1,10 +1,12 @@
 -- The ways that an answer to a frame comes about.
-use Rattle.std.specs.Prelude.{ℕ, ◌≤◌, ◌<◌, ◌≡◌, List, [], ◌∷◌, map, true, false, length, leb}
+use Rattle.frame.specs.declared.refusal.Refusal.{Refusal}
+use Rattle.frame.specs.Refusals.{number_of}
+use Rattle.std.specs.Prelude.{ℕ, ◌≤◌, ◌<◌, ◌≡◌, List, [], ◌∷◌, map, true, false, length, leb, Err, Ok, Option}
+use Rattle.frame.specs.declared.refusal.Refusal.TheVariants.{NotForThisMeter, NotOneFrame, OutOfRange, ShortMemory}
 use Rattle.std.proofs.Math.Path.{refl, ap}
 use Rattle.std.proofs.Common.{sym, ◌∙◌, true≢false, arith}
 use borrow.Author.Tests.{leb-true, le-leb}
 use Rattle.laws.specs.Memory.{Outcome, Bytes}
-use Rattle.frame.specs.Refusals.{short_memory, not_one_frame, not_for_this_meter, out_of_range}
 use Rattle.frame.specs.Frame.{Frame, address_of, control_of, field_of, data_of, unmasked}
 use Rattle.frame.proofs.FrameLaws.{control-back}
 use Rattle.frame.specs.Recognition.{exactly_one}
@@ -23,9 +25,7 @@ use Rattle.meter_decision.proofs.DecisionLaws.{fails_silently, FailsAs, checks-f
 use Rattle.item_command.proofs.CommandLaws.{command-known, asks, Asks, known, unknown, same-control}
 use Rattle.meter.specs.declared.Meter.{Meter}
 use Rattle.meter.specs.declared.Answered.{Answered}
-use Rattle.meter.specs.declared.FrameAnswer.TheVariants.{Replied, Refused}
 use Rattle.item_command.specs.declared.Command.{Command}
-use Rattle.item_command.specs.declared.Asked.{Asked}
 
 -- The data of a frame are bytes.
 pub data_bytes : (bytes : List ℕ) → Bytes (data_of bytes)
@@ -38,14 +38,14 @@ data_bytes bytes = go (field_of bytes)
 
 module _ (bytes : List ℕ) (m : Meter) (forward reverse : Rows) where
   -- What a frame comes to: it is not for this meter, or its command is carried out.
-  pub treated_cases : (P : Treatment → Type 0) → P (silent not_for_this_meter)
+  pub treated_cases : (P : Treatment → Type 0) → P (silent NotForThisMeter)
       → ((command : Command) → control_of bytes ≡ control_for command → addressed command (address_of bytes) m.address ≡ true
       → P (carried_out command (data_of bytes) m (value_asked (data_of bytes) m forward reverse)))
       → P (treated bytes m forward reverse)
   unfolding treated
   treated_cases P none some = go (asks (control_of bytes))
     where
-      go : {asked : Asked} → Asks (control_of bytes) asked → P (for_meter asked bytes m forward reverse)
+      go : {asked : Option Command} → Asks (control_of bytes) asked → P (for_meter asked bytes m forward reverse)
       go (known command e) =
           pick_cases P (addressed command (address_of bytes) m.address) (some command e) (λ _. none)
       go unknown = none
@@ -90,7 +90,7 @@ module _ (bytes : List ℕ) (m : Meter) (forward reverse : Rows) where
 
     -- The ways that an answer comes about: a refusal, an error reply, or the normal reply where every check holds.
     pub data Answers : Type 0 where
-      refuses : (n : ℕ) → (InRanges m forward reverse → n < out_of_range) → answered bytes m forward reverse memory ≡ refused n m memory → Answers
+      refuses : (n : Refusal) → (InRanges m forward reverse → number_of n < 16) → answered bytes m forward reverse memory ≡ refused n m memory → Answers
       errs : (command : Command) (e : ℕ) → Reaches command → fails_silently command ≡ false
           → answered bytes m forward reverse memory ≡ delivered (replies (reply_to (control_for command) true) (e ∷ []) (untouched m)) m memory → Answers
       carries : (command : Command) → Reaches command → AllHold (checks_of command (data_of bytes) m.key m.passwords)
@@ -102,7 +102,7 @@ module _ (bytes : List ℕ) (m : Meter) (forward reverse : Rows) where
         pick_cases P (within_ranges m forward reverse)
         (λ r. pick_cases P (leb 212 (length memory))
         (λ l. pick_cases P (exactly_one bytes)
-        (λ o. treated_cases (λ t. P (delivered t m memory)) (refuses not_for_this_meter (λ _. omega arith))
+        (λ o. treated_cases (λ t. P (delivered t m memory)) (refuses NotForThisMeter (λ _. omega arith))
         (λ command control for-meter. carried command
         (record {
           ranges = (within-ranges m forward reverse).0 r;
@@ -111,9 +111,9 @@ module _ (bytes : List ℕ) (m : Meter) (forward reverse : Rows) where
           control = control;
           for-meter = for-meter;
         })))
-        (λ _. refuses not_one_frame (λ _. omega arith)))
-        (λ _. refuses short_memory (λ _. omega arith)))
-        (λ r. refuses out_of_range (λ h. absurd (true≢false (sym ((within-ranges m forward reverse).1 h) ∙ r))))
+        (λ _. refuses NotOneFrame (λ _. omega arith)))
+        (λ _. refuses ShortMemory (λ _. omega arith)))
+        (λ r. refuses OutOfRange (λ h. absurd (true≢false (sym ((within-ranges m forward reverse).1 h) ∙ r))))
         refl
       where
         P : Outcome Answered → Type 0
@@ -126,10 +126,10 @@ module _ (bytes : List ℕ) (m : Meter) (forward reverse : Rows) where
           where
             fail : (f : Failure) → FailsAs command f → P (delivered (failed command m f) m memory)
             fail (error_byte e) h = errs command e w h
-            fail (silence n) h = refuses n (λ _. omega arith)
+            fail (silence n) h = refuses n (λ _. omega (arith, ap number_of h.1))
 
 -- A refusal is no reply.
-pub not-replied : {k n : ℕ} → Refused k ≡ Replied n → ⊥
+pub not-replied : {n : ℕ} {k : Refusal} → Err k ≡ Ok n → ⊥
 not-replied e = let z : ◌≡◌ {A = ℕ} 0 1 = cc in omega arith
 
 -- The control code of a reply.

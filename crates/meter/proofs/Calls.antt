@@ -1,9 +1,11 @@
 -- Operations keep a meter within its ranges, so that no calls from a fresh meter lead to 16.
-use Rattle.std.specs.Prelude.{ℕ, ◌≡◌, refl, List, [], ◌∷◌, Bool, ◌&&◌, leb, eqb}
+use Rattle.std.specs.Prelude.{ℕ, ◌≡◌, refl, List, [], ◌∷◌, Bool, ◌&&◌, leb, eqb, Err, Ok, Result}
+use Rattle.frame.specs.Refusals.{number_of}
+use Rattle.frame.specs.declared.refusal.Refusal.{Refusal}
+use Rattle.frame.specs.declared.refusal.Refusal.TheVariants.{OutOfRange}
 use Rattle.std.proofs.Math.Path.{ap}
 use Rattle.std.proofs.Common.{arith}
 use Rattle.frame.specs.Frame.{data_of}
-use Rattle.frame.specs.Refusals.{out_of_range}
 use Rattle.item_address.specs.Address.{Good}
 use Rattle.item_decimal.specs.Decimal.{is_decimal, first_bad_from, first_bad, all_decimal}
 use Rattle.item_decimal.proofs.DecimalLaws.{all-decimal}
@@ -21,10 +23,6 @@ use Rattle.meter.proofs.MeterAfterLaws.{ranges-after}
 use Rattle.meter.proofs.AnswerLaws.{Answers, refuses, errs, carries, answers}
 use Rattle.meter_counting.specs.declared.CountedReadings.{CountedReadings}
 use Rattle.meter.specs.declared.Meter.{Meter}
-use Rattle.meter_counting.specs.declared.HostAnswer.{HostAnswer}
-use Rattle.meter_counting.specs.declared.HostAnswer.TheVariants as host
-use Rattle.meter.specs.declared.FrameAnswer.{FrameAnswer}
-use Rattle.meter.specs.declared.FrameAnswer.TheVariants as frames
 
 -- A meter with its readings.
 pub record State : Type 0 where
@@ -57,12 +55,12 @@ after_all (c ∷ calls) s = after_all calls (after c s)
 
 -- A call is refused with 16.
 abbrev pub Refused16 : MeterCall → State → Type 0
-Refused16 (key on) s = (key_set on s.meter s.forward s.reverse).answer ≡ host.Refused out_of_range
+Refused16 (key on) s = (key_set on s.meter s.forward s.reverse).answer ≡ Err OutOfRange
 Refused16 (pulse amount direction rate) s =
-    (pulsed_by amount direction rate s.meter s.forward s.reverse).answer ≡ host.Refused out_of_range
-Refused16 settle s = (settled_by s.meter s.forward s.reverse).answer ≡ host.Refused out_of_range
+    (pulsed_by amount direction rate s.meter s.forward s.reverse).answer ≡ Err OutOfRange
+Refused16 settle s = (settled_by s.meter s.forward s.reverse).answer ≡ Err OutOfRange
 Refused16 (frame bytes memory) s =
-    (answered bytes s.meter s.forward s.reverse memory).answer.answer ≡ frames.Refused out_of_range
+    (answered bytes s.meter s.forward s.reverse memory).answer.answer ≡ Err OutOfRange
 
 -- A fresh meter with its readings.
 abbrev pub fresh_state : List ℕ → State
@@ -75,16 +73,16 @@ abbrev Kept : Meter → Rows → Rows → Type 0 → Type 0
 Kept m forward reverse Refused = InRanges m forward reverse × (Refused → ⊥)
 
 -- The number of a refusal; 0 stands for none.
-abbrev host_number : HostAnswer → ℕ
-host_number host.Done = 0
-host_number (host.Refused n) = n
+abbrev host_number : Result Unit Refusal → ℕ
+host_number (Ok tt) = 0
+host_number (Err n) = number_of n
 
-abbrev frame_number : FrameAnswer → ℕ
-frame_number (frames.Replied n) = 0
-frame_number (frames.Refused n) = n
+abbrev frame_number : Result ℕ Refusal → ℕ
+frame_number (Ok n) = 0
+frame_number (Err n) = number_of n
 
 module _ (m : Meter) (forward reverse : Rows) (h : InRanges m forward reverse) where
-  key-kept : (on : Bool) → let k = key_set on m forward reverse in Kept k.meter forward reverse (k.answer ≡ host.Refused out_of_range)
+  key-kept : (on : Bool) → let k = key_set on m forward reverse in Kept k.meter forward reverse (k.answer ≡ Err OutOfRange)
   unfolding key_set
   key-kept on = rw ((within-ranges m forward reverse).1 h) (ranges-again h (with_key on m) h.address h.registers, λ r. omega (arith, ap host_number r))
 
@@ -94,7 +92,7 @@ module _ (m : Meter) (forward reverse : Rows) (h : InRanges m forward reverse) w
 
   abbrev CountedKept : CountedReadings → Type 0
   CountedKept readings =
-      let c = counted_with m readings in Kept c.meter c.energies.forward c.energies.reverse (c.answer ≡ host.Refused out_of_range)
+      let c = counted_with m readings in Kept c.meter c.energies.forward c.energies.reverse (c.answer ≡ Err OutOfRange)
 
   pulse-kept : (amount direction rate : ℕ) → CountedKept (counting.pulsed_by amount direction rate (within_ranges m forward reverse) forward reverse)
   unfolding counting.pulsed_by
@@ -113,12 +111,12 @@ module _ (m : Meter) (forward reverse : Rows) (h : InRanges m forward reverse) w
       (readings-again (settled_in_range forward h.forward-readings) (settled_in_range reverse h.reverse-readings), λ r. omega (arith, ap host_number r))
 
   frame-kept : (bytes memory : List ℕ) → let a = (answered bytes m forward reverse memory).answer in
-      Kept a.meter forward reverse (a.answer ≡ frames.Refused out_of_range)
+      Kept a.meter forward reverse (a.answer ≡ Err OutOfRange)
   unfolding delivered
   frame-kept bytes memory = go (answers bytes m forward reverse memory)
     where
       go : Answers bytes m forward reverse memory → let a = (answered bytes m forward reverse memory).answer in
-          Kept a.meter forward reverse (a.answer ≡ frames.Refused out_of_range)
+          Kept a.meter forward reverse (a.answer ≡ Err OutOfRange)
       go (refuses n small e) = rw e (h, λ r. omega (arith, small h, ap frame_number r))
       go (errs command b w loud e) = rw e (untouched-ranges m h, λ r. omega (arith, ap frame_number r))
       go (carries command w all e) = rw e (ranges-after command (data_of bytes) m forward reverse h all, λ r. omega (arith, ap frame_number r))

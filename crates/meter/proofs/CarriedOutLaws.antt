@@ -1,5 +1,6 @@
 -- The last steps of the code to the answer to a frame: the command carried out, the reply written.
-use Rattle.std.specs.Prelude.{ℕ, ◌+◌, ◌≤◌, ◌≡◌, refl, false, List}
+use Rattle.std.specs.Prelude.{ℕ, ◌+◌, ◌≤◌, ◌≡◌, refl, false, List, Ok, Result}
+use Rattle.frame_parts.specs.declared.WriteError.{WriteError}
 use Rattle.std.proofs.Math.Path.{ap}
 use Rattle.std.proofs.Common.{◌∙◌, arith}
 use Rattle.std.proofs.Math.ListN.{length}
@@ -7,8 +8,6 @@ use Rattle.laws.specs.Memory.{Outcome, outcome, over}
 use Rattle.frame.specs.Frame.{frame_for}
 use Rattle.frame_parts.specs.Writing.{writing}
 use Rattle.frame_parts.specs.WritingLaws.{frame-written}
-use Rattle.frame_parts.specs.declared.Written.{Written}
-use Rattle.frame_parts.specs.declared.Written.TheVariants.{Length}
 use Rattle.laws.specs.Checks.{first_failing}
 use Rattle.laws.specs.ChecksLaws.{first-failing-through}
 use Rattle.item_command.specs.Command.{control_for}
@@ -18,7 +17,6 @@ use Rattle.meter_decision.specs.declared.Decision.{Decision}
 use Rattle.meter_decision.specs.declared.Decision.TheVariants.{Silent, Error, Read, OwnAddress, Write, NewAddress, NewPassword}
 use Rattle.meter.specs.Answer.{Treatment, silent, replies, failed, reply_data, meter_after, carried_out, answered_with, delivered}
 use Rattle.meter.specs.declared.Meter.{Meter}
-use Rattle.meter.specs.declared.FrameAnswer.TheVariants.{Replied}
 use Rattle.item_command.specs.declared.Command.{Command}
 use Rattle.item_command.specs.declared.Command.TheVariants.{ReadData, ReadAddress, WriteData, WriteAddress, ChangePassword}
 
@@ -58,16 +56,16 @@ carried-decided command payload m held =
     passes ChangePassword = refl
 
 -- A reply's frame is written, for there is room for it, and that is the reply delivered.
-module _ (after : Meter) (control : ℕ) (payload out : List ℕ) (few : length payload ≤ 200) (room : 212 ≤ length out) (r : Written) (last : List ℕ)
+module _ (after : Meter) (control : ℕ) (payload out : List ℕ) (few : length payload ≤ 200) (room : 212 ≤ length out) (r : Result ℕ WriteError) (last : List ℕ)
     (w : outcome r last ≡ writing after.address control payload out) where
-  written : outcome r last ≡ outcome (Length (12 + length payload)) (over (frame_for after.address control payload) out)
+  written : outcome r last ≡ outcome (Ok (12 + length payload)) (over (frame_for after.address control payload) out)
   written = w ∙ frame-written after.address control payload out few (omega arith)
 
-  pub reply-length : r ≡ Length (12 + length payload)
-  reply-length = ap (λ (o : Outcome Written). o.answer) written
+  pub reply-length : r ≡ Ok (12 + length payload)
+  reply-length = ap (λ (o : Outcome (Result ℕ WriteError)). o.answer) written
 
-  pub reply-delivered : (m : Meter) (n : ℕ) → r ≡ Length n → outcome (answered_with after (Replied n)) last ≡ delivered (replies control payload after) m out
+  pub reply-delivered : (m : Meter) (n : ℕ) → r ≡ Ok n → outcome (answered_with after (Ok n)) last ≡ delivered (replies control payload after) m out
   unfolding delivered
   reply-delivered m n e =
       let same : n ≡ 12 + length payload = cc reply-length in
-      rw (same, ap (λ (o : Outcome Written). o.memory) written)
+      rw (same, ap (λ (o : Outcome (Result ℕ WriteError)). o.memory) written)

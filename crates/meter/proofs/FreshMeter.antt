@@ -1,5 +1,7 @@
 -- Document 01: a fresh meter, from an address, in words.
-use Rattle.std.specs.Prelude.{ℕ, ◌≡◌, refl, List, [], Bool, true, false, replicate, get_or}
+use Rattle.frame.specs.declared.refusal.Refusal.{Refusal}
+use Rattle.std.specs.Prelude.{ℕ, ◌≡◌, refl, List, [], Bool, true, false, replicate, get_or, Err, Ok, Result}
+use Rattle.frame.specs.declared.refusal.Refusal.TheVariants.{BadArgument}
 use Rattle.laws.specs.All.{AllOf}
 use Rattle.laws.specs.AllLaws.{all_get, all_replicate}
 use Rattle.laws.specs.Test.{pick}
@@ -9,7 +11,6 @@ use Rattle.energy.specs.Reading.{Reading, number_of, zero_reading, no_reading}
 use Rattle.energy.proofs.ReadingLaws.{number-zero}
 use Rattle.energy.specs.Energies.{Rows, zero_rows, reading_at, number_at}
 use Rattle.meter_counting.proofs.CountingWords.{OfFive, Sized}
-use Rattle.meter_counting.specs.declared.HostAnswer.TheVariants.{Done, Refused}
 use Rattle.meter_holding.specs.Holding.{value_for}
 use Rattle.meter_holding.proofs.FreshWords.{FreshHolds, fresh_holds}
 use Rattle.meter.specs.Host.{created}
@@ -22,8 +23,8 @@ ReadsZero rows = (row column : ℕ) → number_at rows row column ≡ 0
 -- A good address makes a meter of it, any other is refused with 8. Key off, passwords and operator code zero, thirteen rows of five readings in
 -- each direction, all zero, and for each item what document 01 lists.
 pub record FreshIsRight (address : List ℕ) : Type 0 where
-  pub made : Good address → (created address).answer ≡ Done
-  pub refused : (Good address → ⊥) → (created address).answer ≡ Refused 8
+  pub made : Good address → (created address).answer ≡ Ok tt
+  pub refused : (Good address → ⊥) → (created address).answer ≡ Err BadArgument
   pub own : (created address).meter.address ≡ address
   pub key : (created address).meter.key ≡ false
   pub passwords : (created address).meter.passwords ≡ replicate 30 0x00
@@ -66,6 +67,6 @@ fresh_is_right address =
       items = fresh_holds address zero_rows zero_rows;
     }
   where
-    none : (t : Bool) → (t ≡ true → ⊥) → pick t Done (Refused 8) ≡ Refused 8
+    none : (t : Bool) → (t ≡ true → ⊥) → ◌≡◌ {A = Result Unit Refusal} (pick t (Ok tt) (Err BadArgument)) (Err BadArgument)
     none true h = absurd (h refl)
     none false h = refl

@@ -1,11 +1,11 @@
 -- Document 01, "Host calls besides frames", in words.
-use Rattle.std.specs.Prelude.{ℕ, ◌≡◌, refl, Bool}
+use Rattle.std.specs.Prelude.{ℕ, ◌≡◌, refl, Bool, Err, Ok}
+use Rattle.frame.specs.declared.refusal.Refusal.TheVariants.{OutOfRange}
 use Rattle.laws.specs.Memory.{LeftAlone}
 use Rattle.laws.specs.TestLaws.{not_true}
 use Rattle.energy.specs.Energies.{Rows}
 use Rattle.meter_counting.proofs.CountingWords.{Sized, PulseIsRight, SettleIsRight}
 use Rattle.meter_counting.proofs.CountingWordsLaws.{pulse-words, settle-words}
-use Rattle.meter_counting.specs.declared.HostAnswer.TheVariants.{Done, Refused}
 use Rattle.meter.specs.Host.{key_set, pulsed_by, settled_by}
 use Rattle.meter.specs.Meter.{within_ranges}
 use Rattle.meter.proofs.Ranges.{InRanges, within-ranges}
@@ -14,7 +14,7 @@ use Rattle.meter.specs.declared.Meter.{Meter}
 
 -- The key is so, and nothing else is changed.
 pub record KeyIsSet (on : Bool) (m : Meter) (k : KeySet) : Type 0 where
-  pub answer : k.answer ≡ Done
+  pub answer : k.answer ≡ Ok tt
   pub key : k.meter.key ≡ on
   pub address : k.meter.address ≡ m.address
   pub passwords : k.meter.passwords ≡ m.passwords
@@ -26,7 +26,7 @@ pub record KeyIsSet (on : Bool) (m : Meter) (k : KeySet) : Type 0 where
 pub record HostIsRight (m : Meter) (forward reverse : Rows) : Type 0 where
   pub key_set_lem : (on : Bool) → InRanges m forward reverse → KeyIsSet on m (key_set on m forward reverse)
   pub key-refused : (on : Bool) → (InRanges m forward reverse → ⊥)
-      → let k = key_set on m forward reverse in (k.answer ≡ Refused 16) × LeftAlone m k.meter
+      → let k = key_set on m forward reverse in (k.answer ≡ Err OutOfRange) × LeftAlone m k.meter
   pub pulse : (amount direction rate : ℕ)
       → let c = pulsed_by amount direction rate m forward reverse in
       PulseIsRight (InRanges m forward reverse) amount direction rate forward reverse c.answer c.energies × LeftAlone m c.meter

@@ -1,12 +1,11 @@
 -- What a command carried out leaves and replies: the meter keeps its size and its ranges, only 15 changes its address, and the reply fits.
-use Rattle.std.specs.Prelude.{ℕ, ◌*◌, ◌≤◌, ◌≡◌, refl, List, ◌++◌, length, take}
+use Rattle.std.specs.Prelude.{ℕ, ◌*◌, ◌≤◌, ◌≡◌, refl, List, ◌++◌, length, take, None, Option, Some}
+use Rattle.item.specs.declared.table.Item.{Item}
 use Rattle.std.proofs.Common.{◌∙◌, arith, length-append, length-take-le, leb-true, eqb-true}
 use Rattle.std.proofs.Math.Bool.{and-eq-true_iff}
 use Rattle.item_address.proofs.AddressLaws.{good}
 use Rattle.laws.specs.ChecksLaws.{AllHold}
 use Rattle.item.proofs.TableLaws.{listed-fits}
-use Rattle.item.specs.declared.table.Lookup.{Lookup}
-use Rattle.item.specs.declared.table.Lookup.TheVariants.{Listed, NotListed}
 use Rattle.energy.specs.Energies.{Rows}
 use Rattle.meter.specs.Meter.{MeterSized, with_registers}
 use Rattle.meter_holding.specs.Holding.{location_of}
@@ -25,9 +24,9 @@ use Rattle.item_command.specs.declared.Command.{Command}
 use Rattle.item_command.specs.declared.Command.TheVariants.{ReadData, ReadAddress, WriteData, WriteAddress, ChangePassword}
 
 -- A write of what was looked up changes only registers.
-pub only_registers_of : (l : Lookup) (value : List ℕ) (m : Meter) → with_item l value m ≡ with_registers (with_item l value m).registers m
-only_registers_of (Listed item) value m = refl
-only_registers_of NotListed value m = refl
+pub only_registers_of : (l : Option Item) (value : List ℕ) (m : Meter) → with_item l value m ≡ with_registers (with_item l value m).registers m
+only_registers_of (Some item) value m = refl
+only_registers_of None value m = refl
 
 -- A command carried out leaves a meter its size.
 pub sized-after : (command : Command) (payload : List ℕ) (m : Meter) → MeterSized m → AllHold (checks_of command payload m.key m.passwords) → MeterSized (meter_after command payload m)
@@ -96,10 +95,10 @@ reply-fits ReadData payload m forward reverse sized h = go (item_asked payload) 
     four : length (take 4 payload) ≡ 4
     four = length-take-le 4 payload (omega (arith, eqb-true (length payload) 4 h.0))
 
-    go : (l : Lookup) → item_asked payload ≡ l → length (take 4 payload ++ value_of l m forward reverse) ≤ 200
-    go (Listed item) e =
+    go : (l : Option Item) → item_asked payload ≡ l → length (take 4 payload ++ value_of l m forward reverse) ≤ 200
+    go (Some item) e =
         rw (length-append, four, value-length (identifier_of payload) item e m sized forward reverse) (omega (arith, listed-fits (identifier_of payload) item e))
-    go NotListed e = rw (length-append, four) (omega arith)
+    go None e = rw (length-append, four) (omega arith)
 reply-fits ReadAddress payload m forward reverse sized h = omega (arith, sized.address)
 reply-fits WriteData payload m forward reverse sized h = omega arith
 reply-fits WriteAddress payload m forward reverse sized h = omega arith

@@ -1,15 +1,14 @@
 -- Laws of what a meter holds, by its fields: those of `meter_holding` for its address and registers.
-use Rattle.std.specs.Prelude.{ℕ, ◌≡◌, refl, List, true, length}
+use Rattle.std.specs.Prelude.{ℕ, ◌≡◌, refl, List, true, length, Some}
 use Rattle.item.specs.Table.{item_of}
 use Rattle.item.specs.declared.table.Item.{Item}
-use Rattle.item.specs.declared.table.Lookup.TheVariants.{Listed}
 use Rattle.energy.specs.Energies.{Rows}
 use Rattle.meter_holding.specs.Holding.{location_of}
 use Rattle.meter_holding.proofs.HoldingLaws as holding
 use Rattle.meter.specs.Meter.{MeterSized, AllKept, untouched, value_held, with_value}
 use Rattle.meter.specs.declared.Meter.{Meter}
 
-module _ (identifier : ℕ) (item : Item) (listed : item_of identifier ≡ Listed item) (m : Meter) (sized : MeterSized m) where
+module _ (identifier : ℕ) (item : Item) (listed : item_of identifier ≡ Some item) (m : Meter) (sized : MeterSized m) where
   -- The value has the item's length.
   pub value-length : (forward reverse : Rows) → length (value_held item m forward reverse) ≡ item.length
   value-length forward reverse =
@@ -32,7 +31,7 @@ module _ (identifier : ℕ) (item : Item) (listed : item_of identifier ≡ Liste
     value-back w forward reverse =
         holding.value-back identifier item listed m.address m.registers sized.address sized.registers value e w forward reverse
 
-    pub value-other : item.writable ≡ true → (other : ℕ) (another : Item) → item_of other ≡ Listed another → (other ≡ identifier → ⊥)
+    pub value-other : item.writable ≡ true → (other : ℕ) (another : Item) → item_of other ≡ Some another → (other ≡ identifier → ⊥)
         → (forward reverse : Rows) → value_held another (with_value (location_of item.kind) value m) forward reverse ≡ value_held another m forward reverse
     value-other w other another h differ forward reverse =
         holding.value-other identifier item listed m.address m.registers sized.address sized.registers value e w other another h differ

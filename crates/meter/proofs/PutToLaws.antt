@@ -1,5 +1,6 @@
 -- What a frame put to a meter comes to, by the checks in words: the normal reply where every check of the row holds, and else what the
 -- first failing one answers with.
+use Rattle.frame.specs.declared.refusal.Refusal.{Refusal}
 use Rattle.std.specs.Prelude.{ℕ, ◌≡◌, List, [], ◌∷◌, false}
 use Rattle.std.proofs.Math.Path.{ap}
 use Rattle.std.proofs.Common.{◌∙◌}
@@ -92,7 +93,7 @@ module _ (bytes : List ℕ) (m : Meter) (forward reverse : Rows) (memory : List 
   unfolding delivered
   error-replied command w e h = fails command w (error_byte e) h ∙ rw ((untouched-keeps m).address, error_figure_lem command)
 
-  pub kept-silent : (command : Command) → PutTo bytes m forward reverse memory command → (n : ℕ) → RowFails bytes m forward reverse memory command (silence n)
+  pub kept-silent : (command : Command) → PutTo bytes m forward reverse memory command → (n : Refusal) → RowFails bytes m forward reverse memory command (silence n)
       → answered bytes m forward reverse memory ≡ refused n m memory
   unfolding delivered
   kept-silent command w n h = fails command w (silence n) h

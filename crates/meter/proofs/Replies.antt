@@ -1,6 +1,6 @@
 -- Every reply is one frame whose address is the meter's own; after 15 it is the new one.
 use Prim.Native.Nat.{ℕ, ◌+◌, ◌≤◌}
-use Rattle.std.specs.Prelude.{◌≡◌, true, false}
+use Rattle.std.specs.Prelude.{◌≡◌, true, false, Ok}
 use Rattle.std.proofs.Common.{sym, ◌∙◌, true≢false, arith, take_at, drop_at}
 use Rattle.std.proofs.Math.Path.{ap}
 use mathlib.Core.List.{List, [], ◌∷◌, append-nil}
@@ -16,7 +16,6 @@ use Rattle.meter_decision.proofs.DecisionLaws.{fails_silently}
 use Rattle.meter.proofs.MeterAfterLaws.{sized-after, address_kept, reply-fits}
 use Rattle.meter.proofs.AnswerLaws.{not-replied, reaches-one, Answers, refuses, errs, carries, answers}
 use Rattle.meter.specs.declared.Meter.{Meter}
-use Rattle.meter.specs.declared.FrameAnswer.TheVariants.{Replied}
 use Rattle.item_command.specs.declared.Command.TheVariants.{WriteAddress}
 use Rattle.meter.proofs.MeterLaws.{untouched-keeps, untouched-sized}
 
@@ -30,14 +29,14 @@ pub record RepliesFromOwn (bytes : List ℕ) (m : Meter) (forward reverse : Rows
 
 -- A reply of data that fit, from an address that the meter then has.
 module _ (bytes : List ℕ) (m : Meter) (forward reverse : Rows) (memory : List ℕ) (n : ℕ)
-    (h : (answered bytes m forward reverse memory).answer.answer ≡ Replied n) where
+    (h : (answered bytes m forward reverse memory).answer.answer ≡ Ok n) where
   delivers : (control : ℕ) (payload : List ℕ) (after : Meter) → length after.address ≡ 6 → length payload ≤ 200
       → ((control_of bytes ≡ 0x15 → ⊥) → after.address ≡ m.address) → (control_of bytes ≡ 0x15 → after.address ≡ data_of bytes)
       → answered bytes m forward reverse memory ≡ delivered (replies control payload after) m memory → RepliesFromOwn bytes m forward reverse memory n
   unfolding delivered
   delivers control payload after six most own new e =
       let f : List ℕ = frame_for after.address control payload in
-      let said : Replied (12 + length payload) ≡ Replied n = rw e at h in
+      let said : Ok (12 + length payload) ≡ Ok n = rw e at h in
       let size : 12 + length payload ≡ n = cc in
       let long : length f ≡ n = frame-for-length after.address control payload six ∙ size in
       let front : take n (answered bytes m forward reverse memory).memory ≡ f = rw e (take_at f (drop (length f) memory) n long) in
@@ -50,7 +49,7 @@ module _ (bytes : List ℕ) (m : Meter) (forward reverse : Rows) (memory : List 
       }
 
 pub reply-from-own : (bytes : List ℕ) (m : Meter) (forward reverse : Rows) (memory : List ℕ) (n : ℕ) → MeterSized m
-    → (answered bytes m forward reverse memory).answer.answer ≡ Replied n → RepliesFromOwn bytes m forward reverse memory n
+    → (answered bytes m forward reverse memory).answer.answer ≡ Ok n → RepliesFromOwn bytes m forward reverse memory n
 unfolding meter_after
 reply-from-own bytes m forward reverse memory n sized h = go (answers bytes m forward reverse memory)
   where

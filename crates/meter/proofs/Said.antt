@@ -1,6 +1,9 @@
 -- What the papers say of a meter's answer to a frame, when each of a meter's operations is refused, and that meter, readings and memory are then
 -- as they were.
-use Rattle.std.specs.Prelude.{ℕ, ◌≡◌, refl, List, [], ◌∷◌, Bool, true, false, ◌↔◌}
+use Rattle.std.specs.Prelude.{ℕ, ◌≡◌, refl, List, [], ◌∷◌, Bool, true, false, ◌↔◌, Err, Ok, Result}
+use Rattle.frame.specs.Refusals.{number_of}
+use Rattle.frame.specs.declared.refusal.Refusal.{Refusal}
+use Rattle.frame.specs.declared.refusal.Refusal.TheVariants.{BadArgument}
 use Rattle.std.proofs.Common.{sym, ap, subst, ◌∙◌}
 use Rattle.std.proofs.lemmas.Bool.{false≢true}
 use mathlib.Core.Logic.Iff
@@ -8,7 +11,6 @@ use Rattle.laws.specs.Memory.{Outcome}
 use Rattle.laws.specs.Said.{Said, values, refusal, IsRefusal, Refuses, refuses, answers}
 use Rattle.laws.specs.Test.{pick}
 use Rattle.laws.specs.TestLaws.{pick_cases}
-use Rattle.frame.specs.Refusals.{bad_argument}
 use Rattle.item_address.specs.Address.{Good, is_good}
 use Rattle.item_address.proofs.AddressLaws.{good, is_good_lem}
 use Rattle.energy.specs.Energies.{Rows}
@@ -16,7 +18,6 @@ use Rattle.energy.specs.declared.Energies.{Energies}
 use Rattle.meter_counting.specs.Counting.{energies_of}
 use Rattle.meter_counting.proofs.Said as counting
 use Rattle.meter_counting.proofs.Said.{host_said, Countable}
-use Rattle.meter_counting.specs.declared.HostAnswer.TheVariants as host
 use Rattle.meter.specs.Meter.{fresh_meter, within_ranges}
 use Rattle.meter.proofs.Ranges.{InRanges, within-ranges}
 use Rattle.meter.specs.Host.{created, key_set, pulsed_by, settled_by}
@@ -24,15 +25,13 @@ use Rattle.meter.specs.Answer.{delivered, answered}
 use Rattle.meter.proofs.AnswerLaws as laws
 use Rattle.meter.proofs.AnswerLaws.{Answers, not-replied}
 use Rattle.meter.specs.declared.Answered.{Answered}
-use Rattle.meter.specs.declared.FrameAnswer.{FrameAnswer}
-use Rattle.meter.specs.declared.FrameAnswer.TheVariants.{Replied, Refused}
 use Rattle.meter.specs.declared.KeySet.{KeySet}
 use Rattle.meter.specs.declared.Meter.{Meter}
 
 -- The reply's length, or a refusal: 3 and 4 are silence.
-abbrev pub frame_said : FrameAnswer → Said
-frame_said (Replied n) = values (n ∷ [])
-frame_said (Refused n) = refusal n
+abbrev pub frame_said : Result ℕ Refusal → Said
+frame_said (Ok n) = values (n ∷ [])
+frame_said (Err n) = refusal (number_of n)
 
 -- A meter is refused when it is made exactly where its address is not good; what comes back is then no meter, for every operation refuses it
 -- with 16.
@@ -43,7 +42,7 @@ pub fresh-refused : (address : List ℕ)
 unfolding created fresh_meter
 fresh-refused address = (go (is_good address) refl, λ r ranges. (go (is_good address) refl).0 r ranges.address)
   where
-    go : (t : Bool) → is_good address ≡ t → IsRefusal (host_said (pick t host.Done (host.Refused bad_argument))) ↔ (Good address → ⊥)
+    go : (t : Bool) → is_good address ≡ t → IsRefusal (host_said (pick t (Ok tt) (Err BadArgument))) ↔ (Good address → ⊥)
     go true e = (λ r. absurd r, λ bad. bad (good address e))
     go false e = (λ r g. false≢true (sym e ∙ is_good_lem address g), λ bad. tt)
 
@@ -84,12 +83,12 @@ settle-refuses m forward reverse =
 -- A frame is refused where the answer says so; `FrameIsRight` says where that is.
 pub frame-refuses : (bytes : List ℕ) (m : Meter) (forward reverse : Rows) (memory : List ℕ)
     → let o = answered bytes m forward reverse memory in
-    Refuses {S = Meter × List ℕ} (frame_said o.answer.answer) ((n : ℕ) × (o.answer.answer ≡ Refused n)) (m, memory) (o.answer.meter, o.memory)
+    Refuses {S = Meter × List ℕ} (frame_said o.answer.answer) ((n : Refusal) × (o.answer.answer ≡ Err n)) (m, memory) (o.answer.meter, o.memory)
 unfolding delivered
 frame-refuses bytes m forward reverse memory = go (laws.answers bytes m forward reverse memory)
   where
     P : Outcome Answered → Type 0
-    P o = Refuses {S = Meter × List ℕ} (frame_said o.answer.answer) ((n : ℕ) × (o.answer.answer ≡ Refused n)) (m, memory) (o.answer.meter, o.memory)
+    P o = Refuses {S = Meter × List ℕ} (frame_said o.answer.answer) ((n : Refusal) × (o.answer.answer ≡ Err n)) (m, memory) (o.answer.meter, o.memory)
 
     go : Answers bytes m forward reverse memory → P (answered bytes m forward reverse memory)
     go (laws.refuses k small e) = subst P (sym e) (refuses (k, refl) tt)

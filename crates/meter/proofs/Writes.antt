@@ -1,5 +1,5 @@
 -- An accepted 14 sets the one register that it names, and the operator code beside it; the value is read back.
-use Rattle.std.specs.Prelude.{ℕ, ◌+◌, ◌≤◌, ◌≡◌, refl, List, [], ◌++◌, length, take}
+use Rattle.std.specs.Prelude.{ℕ, ◌+◌, ◌≤◌, ◌≡◌, refl, List, [], ◌++◌, length, take, Ok, Some}
 use Rattle.std.proofs.Common.{◌∙◌, append-nil, arith, length-append, length-take-le, take_all, eq-eqb}
 use Rattle.laws.specs.AllLaws.{all_take}
 use Rattle.laws.specs.Memory.{outcome, over, IsByte, Bytes}
@@ -10,7 +10,6 @@ use Rattle.item_command.specs.Reply.{control_code, reply_to}
 use Rattle.item_same.specs.SameLaws.{same_refl}
 use Rattle.item.specs.Table.{item_of}
 use Rattle.item.specs.declared.table.Item.{Item}
-use Rattle.item.specs.declared.table.Lookup.TheVariants.{Listed}
 use Rattle.energy.specs.Energies.{Rows}
 use Rattle.meter.specs.Meter.{MeterSized, value_held, untouched}
 use Rattle.meter_decision.specs.Decision.{checks_of}
@@ -27,15 +26,14 @@ use Rattle.meter.proofs.PutToLaws.{row-holds, normally}
 use Rattle.meter.proofs.MeterAfterLaws.{only_registers_of, sized-after, ranges-after, address_kept}
 use Rattle.meter.proofs.AnswerLaws.{data_bytes, answered-normal}
 use Rattle.meter.specs.declared.Meter.{Meter}
-use Rattle.meter.specs.declared.FrameAnswer.TheVariants.{Replied}
 use Rattle.item_command.specs.declared.Command.TheVariants.{ReadData, WriteData}
 
 -- A read of a listed item by the meter's own address gives its value.
 read-value : (identifier own value : List ℕ) (item : Item) (m : Meter) (forward reverse : Rows) (memory : List ℕ) → Bytes identifier
-    → length identifier ≡ 4 → item_of (identifier_of identifier) ≡ Listed item → MeterSized m → InRanges m forward reverse → 212 ≤ length memory
+    → length identifier ≡ 4 → item_of (identifier_of identifier) ≡ Some item → MeterSized m → InRanges m forward reverse → 212 ≤ length memory
     → m.address ≡ own → value_held item m forward reverse ≡ value
     → answered (frame_for own 0x11 identifier) m forward reverse memory
-    ≡ outcome (answered_with (untouched m) (Replied (16 + item.length))) (over (frame_for own 0x91 (identifier ++ value)) memory)
+    ≡ outcome (answered_with (untouched m) (Ok (16 + item.length))) (over (frame_for own 0x91 (identifier ++ value)) memory)
 unfolding delivered reply_to control_code checks_of item_asked addressed names_meter reply_data meter_after
 read-value identifier own value item m forward reverse memory bytes four listed sized ranges room from held =
     let request : List ℕ = frame_for m.address 0x11 identifier in

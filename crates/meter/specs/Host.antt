@@ -1,7 +1,8 @@
 -- The calls of the host besides frames: what each answers and hands back.
-use Rattle.std.specs.Prelude.{ℕ, List, Bool}
+use Rattle.std.specs.Prelude.{ℕ, List, Bool, Err, Ok, Result}
+use Rattle.frame.specs.declared.refusal.Refusal.{Refusal}
+use Rattle.frame.specs.declared.refusal.Refusal.TheVariants.{BadArgument, OutOfRange}
 use Rattle.laws.specs.Test.{pick}
-use Rattle.frame.specs.Refusals.{bad_argument, out_of_range}
 use Rattle.item_address.specs.Address.{is_good}
 use Rattle.energy.specs.Energies.{Rows, zero_rows}
 use Rattle.meter_counting.specs.Counting as counting
@@ -12,8 +13,6 @@ use Rattle.meter.specs.declared.Created.{Created}
 use Rattle.meter.specs.declared.KeySet.{KeySet}
 use Rattle.meter.specs.declared.Counted.{Counted}
 use Rattle.meter_counting.specs.declared.CountedReadings.{CountedReadings}
-use Rattle.meter_counting.specs.declared.HostAnswer.{HostAnswer}
-use Rattle.meter_counting.specs.declared.HostAnswer.TheVariants.{Done, Refused}
 
 -- A fresh meter with its readings zero; 8 for an address that is not good, and what comes back is then out of its ranges.
 unfoldable pub created : List ℕ → Created
@@ -21,16 +20,16 @@ created address =
     record {
       meter = fresh_meter address;
       energies = energies_of zero_rows zero_rows;
-      answer = pick (is_good address) Done (Refused bad_argument);
+      answer = pick (is_good address) (Ok tt) (Err BadArgument);
     }
 
 -- Setting the key: 16, else the meter with the key so.
-abbrev pub key_given : Meter → HostAnswer → KeySet
+abbrev pub key_given : Meter → Result Unit Refusal → KeySet
 key_given m answer = record { meter = m; answer = answer }
 
 unfoldable pub key_set : Bool → Meter → Rows → Rows → KeySet
 key_set on m forward reverse =
-    pick (within_ranges m forward reverse) (key_given (with_key on m) Done) (key_given m (Refused out_of_range))
+    pick (within_ranges m forward reverse) (key_given (with_key on m) (Ok tt)) (key_given m (Err OutOfRange))
 
 -- What was counted, with the meter that it was counted at.
 abbrev pub counted_with : Meter → CountedReadings → Counted

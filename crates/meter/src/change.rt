@@ -13,6 +13,7 @@ use item_command::Command;
 use meter_holding::with_value;
 
 // What an answered frame leaves of a meter that it is not to change.
+#[tactic(auto, unfolding(crate::specs::Meter::untouched))]
 pub(crate) fn untouched(meter: Meter) -> Meter
     ensures { result ≡ untouched meter }
 {
@@ -25,13 +26,9 @@ pub(crate) fn written(meter: Meter, identifier: u32, payload: &[u8]) -> Meter
     requires all_hold { AllHold (checks_of Command.WriteData payload.now meter.key meter.passwords) }
     ensures { result ≡ meter_after Command.WriteData payload.now meter }
 {
-    let held = meter.registers;
-    let registers = with_value(held, identifier, &payload[12..]);
-    let mut operator = [0u8; 4];
-    slice_bytes::copy(&payload[8..12], &mut operator);
     let mut next = meter;
-    next.registers = registers;
-    next.operator = operator;
+    next.registers = with_value(meter.registers, identifier, &payload[12..]);
+    next.operator.copy_from_slice(&payload[8..12]);
     next
 }
 
@@ -41,9 +38,7 @@ pub(crate) fn readdressed(meter: Meter, address: &[u8]) -> Meter
     ensures { result ≡ with_address address.now meter }
 {
     let mut next = meter;
-    let mut own = [0u8; 6];
-    slice_bytes::copy(address, &mut own);
-    next.address = own;
+    next.address.copy_from_slice(address);
     next
 }
 
@@ -53,10 +48,7 @@ pub(crate) fn with_password(meter: Meter, level: u8, password: &[u8]) -> Meter
     ensures { result ≡ with_passwords (with_part (3 * level) password.now meter.passwords) meter }
 {
     let mut next = meter;
-    let mut passwords = next.passwords;
     let at = 3 * level as usize;
-    let end = at + 3;
-    slice_bytes::copy(password, &mut passwords[at..end]);
-    next.passwords = passwords;
+    next.passwords[at..at + 3].copy_from_slice(password);
     next
 }

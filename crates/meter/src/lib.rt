@@ -1,6 +1,6 @@
 // A meter of DL/T 645-2007: document 01, "What the meter holds" and "How the meter treats a frame". Every operation takes the
-// meter and both directions' readings by value, refuses with 16 what is outside document 01's ranges before anything else,
-// and hands the meter back, with the readings where it counts in them.
+// meter by value and both directions' readings lent, or by value where it counts in them, refuses with 16 what is outside document 01's
+// ranges before anything else, and hands the meter back, with the readings where it counts in them.
 #![tactic(auto)]
 
 mod answer;
@@ -12,12 +12,12 @@ ghost use Rattle.meter.specs.Meter.{within_ranges};
 ghost use Rattle.meter.specs.Host.{created, key_set, counted_with, pulsed_by, settled_by};
 ghost use Rattle.meter.specs.Answer.{answered};
 
-use answer::{refused, treat};
-use energy::{Energies, Rows, rows};
+use answer::{Answering, refused};
+use energy::{Energies, rows};
 use frame::MOST_FRAME;
-use frame::refusal::{BAD_ARGUMENT, NOT_ONE_FRAME, OUT_OF_RANGE, SHORT_MEMORY};
+use frame::refusal::Refusal;
 use item_address::is_good;
-use meter_counting::{CountedReadings, HostAnswer};
+use meter_counting::CountedReadings;
 use meter_holding::{fresh_registers, within_ranges};
 
 // What a meter holds besides its readings; laid out as C has it, for `call_ends`.
@@ -41,14 +41,14 @@ pub struct Meter {
 pub struct Created {
     pub meter: Meter,
     pub energies: Energies,
-    pub answer: HostAnswer,
+    pub answer: Result<(), Refusal>,
 }
 
 // The meter after its key was set.
 #[derive(Clone, Copy)]
 pub struct KeySet {
     pub meter: Meter,
-    pub answer: HostAnswer,
+    pub answer: Result<(), Refusal>,
 }
 
 // The meter and its readings after a pulse or a settlement. The answer stands between the two: side by side they are copied as one, and the
@@ -56,140 +56,123 @@ pub struct KeySet {
 #[derive(Clone, Copy)]
 pub struct Counted {
     pub meter: Meter,
-    pub answer: HostAnswer,
+    pub answer: Result<(), Refusal>,
     pub energies: Energies,
 }
 
-// The answer to a frame.
-#[derive(Clone, Copy)]
-pub enum FrameAnswer {
-    // The length of the reply that stands at the front of the output buffer.
-    Replied(usize),
-    // A refusal, by document 01's number: no reply, all as before.
-    Refused(u8),
-}
-
-// The meter after a frame, with the answer.
+// The meter after a frame, with the length of the reply that stands at the front of the output buffer; with a refusal there is no
+// reply, and all is as before.
 #[derive(Clone, Copy)]
 pub struct Answered {
     pub meter: Meter,
-    pub answer: FrameAnswer,
-}
-
-// The test of 16 over tables that are lent, so that no operation copies them for it.
-fn in_ranges(meter: Meter, forward: &Rows, reverse: &Rows) -> bool
-    ensures { result ≡ within_ranges meter forward.now reverse.now }
-{
-    let address = meter.address;
-    let registers = meter.registers;
-    within_ranges(address, registers, forward, reverse)
+    pub answer: Result<usize, Refusal>,
 }
 
 // What was counted, with the meter that it was counted at.
 fn counted_with(meter: Meter, counted: CountedReadings) -> Counted
     ensures { result ≡ counted_with meter counted }
 {
-    let energies = counted.energies;
-    let answer = counted.answer;
     Counted {
         meter,
-        answer,
-        energies,
+        answer: counted.answer,
+        energies: counted.energies,
     }
 }
 
 impl Meter {
+    // The test of 16 over readings that are lent, so that no operation copies them for it.
+    fn in_ranges(self, energies: &Energies) -> bool
+        ensures { result ≡ within_ranges self energies.now.forward energies.now.reverse }
+    {
+        within_ranges(self.address, self.registers, energies)
+    }
+
     // A fresh meter of an address, with its readings; 8 for an address that is not good.
+    #[tactic(auto, unfolding(crate::specs::Host::created, crate::specs::Meter::fresh_meter))]
     pub fn fresh(address: [u8; 6]) -> Created
         ensures { result ≡ created address }
     {
-        let registers = fresh_registers();
-        let meter = Meter {
-            address,
-            key: false,
-            passwords: [0u8; 30],
-            operator: [0u8; 4],
-            registers,
+        let answer = if is_good(address) {
+            Ok(())
+        } else {
+            Err(Refusal::BadArgument)
         };
-        let energies = Energies::new(rows::zero(), rows::zero());
-        if !is_good(address) {
-            return Created {
-                meter,
-                energies,
-                answer: HostAnswer::Refused(BAD_ARGUMENT),
-            };
-        }
         Created {
-            meter,
-            energies,
-            answer: HostAnswer::Done,
+            meter: Meter {
+                address,
+                key: false,
+                passwords: [0u8; 30],
+                operator: [0u8; 4],
+                registers: fresh_registers(),
+            },
+            energies: Energies::new(rows::zero(), rows::zero()),
+            answer,
         }
     }
 
     // Whether a meter and its readings are within document 01's ranges: every operation refuses with 16 those that are not.
-    pub fn is_within_ranges(self, forward: Rows, reverse: Rows) -> bool
-        ensures { result ≡ within_ranges self forward reverse }
+    pub fn is_within_ranges(self, energies: Energies) -> bool
+        ensures { result ≡ within_ranges self energies.forward energies.reverse }
     {
-        in_ranges(self, &forward, &reverse)
+        self.in_ranges(&energies)
     }
 
     // Sets the programming key. Refused with 16.
-    pub fn set_key(self, forward: Rows, reverse: Rows, on: bool) -> KeySet
-        ensures { result ≡ key_set on self forward reverse }
+    #[tactic(auto, unfolding(crate::specs::Host::key_set))]
+    pub fn set_key(self, energies: Energies, on: bool) -> KeySet
+        ensures { result ≡ key_set on self energies.forward energies.reverse }
     {
-        if !in_ranges(self, &forward, &reverse) {
+        if !self.in_ranges(&energies) {
             return KeySet {
                 meter: self,
-                answer: HostAnswer::Refused(OUT_OF_RANGE),
+                answer: Err(Refusal::OutOfRange),
             };
         }
-        let mut next = self;
-        next.key = on;
         KeySet {
-            meter: next,
-            answer: HostAnswer::Done,
+            meter: Meter { key: on, ..self },
+            answer: Ok(()),
         }
     }
 
-    // Adds a pulse amount to row 0's rate and total of direction 0, forward, or 1, reverse. Refused with 16, then with 8.
-    pub fn pulse(
-        self,
-        forward: Rows,
-        reverse: Rows,
-        amount: u32,
-        direction: u8,
-        rate: u8,
-    ) -> Counted
-        ensures { result ≡ pulsed_by amount direction rate self forward reverse }
+    // Adds a pulse amount to row 0's rate and total of direction 0, forward, or 1, reverse. Refused with 16, then with 8, which any other
+    // number of a direction or a rate is answered with.
+    pub fn pulse(self, energies: Energies, amount: u32, direction: u8, rate: u8) -> Counted
+        ensures { result ≡ pulsed_by amount direction rate self energies.forward energies.reverse }
     {
-        let within = in_ranges(self, &forward, &reverse);
-        let counted = meter_counting::pulse(within, forward, reverse, amount, direction, rate);
-        counted_with(self, counted)
+        let within = self.in_ranges(&energies);
+        counted_with(
+            self,
+            meter_counting::pulse(within, energies, amount, direction, rate),
+        )
     }
 
     // Moves every row of both directions down one and keeps row 0. Refused with 16.
-    pub fn settle(self, forward: Rows, reverse: Rows) -> Counted
-        ensures { result ≡ settled_by self forward reverse }
+    pub fn settle(self, energies: Energies) -> Counted
+        ensures { result ≡ settled_by self energies.forward energies.reverse }
     {
-        let within = in_ranges(self, &forward, &reverse);
-        let counted = meter_counting::settle(within, forward, reverse);
-        counted_with(self, counted)
+        let within = self.in_ranges(&energies);
+        counted_with(self, meter_counting::settle(within, energies))
     }
 
     // Answers a frame with a reply at the front of the output buffer, which stays as it was beyond it. Refused with 16, 1, 2,
     // 3 and 4, as document 01 says.
-    pub fn answer(self, forward: Rows, reverse: Rows, bytes: &[u8], out: &mut [u8]) -> Answered
-        ensures { outcome result out.new ≡ answered bytes.now self forward reverse out.old }
+    #[tactic(auto, unfolding(crate::specs::Answer::answered))]
+    pub fn answer(self, energies: Energies, bytes: &[u8], out: &mut [u8]) -> Answered
+        ensures { outcome result out.new ≡ answered bytes.now self energies.forward energies.reverse out.old }
     {
-        if !in_ranges(self, &forward, &reverse) {
-            return refused(self, OUT_OF_RANGE);
+        if !self.in_ranges(&energies) {
+            return refused(self, Refusal::OutOfRange);
         }
         if out.len() < MOST_FRAME {
-            return refused(self, SHORT_MEMORY);
+            return refused(self, Refusal::ShortMemory);
         }
         if !frame::is_frame(bytes) {
-            return refused(self, NOT_ONE_FRAME);
+            return refused(self, Refusal::NotOneFrame);
         }
-        treat(self, &forward, &reverse, bytes, out)
+        let answering = Answering {
+            meter: self,
+            energies: &energies,
+        };
+        answering.treat(bytes, out)
     }
 }

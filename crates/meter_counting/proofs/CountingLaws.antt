@@ -1,12 +1,11 @@
 -- Pulses and settlements as one answer and one result for each direction.
-use Rattle.std.specs.Prelude.{ℕ, ◌≡◌, refl, Bool, true, false, ◌&&◌, not, leb, eqb}
+use Rattle.std.specs.Prelude.{ℕ, ◌≡◌, refl, Bool, true, false, ◌&&◌, not, leb, eqb, Err, Ok}
+use Rattle.frame.specs.declared.refusal.Refusal.TheVariants.{BadArgument, OutOfRange}
 use Rattle.laws.specs.Test.{pick}
-use Rattle.frame.specs.Refusals.{bad_argument, out_of_range}
 use Rattle.energy.specs.Energies.{Rows}
 use Rattle.meter_counting.specs.Rows.{is_rate, pulsed, settled}
 use Rattle.meter_counting.proofs.RowsLaws.{pulsed_at_zero}
 use Rattle.meter_counting.specs.Counting.{counted, answer_of, pulsed_by, settled_by}
-use Rattle.meter_counting.specs.declared.HostAnswer.TheVariants.{Done, Refused}
 
 -- A pulse at a rate or at none.
 pub pulsed_where : (t : Bool) (rows : Rows) (amount rate : ℕ) → pulsed rows amount (pick t rate 0) ≡ pick t (pulsed rows amount rate) rows
@@ -25,12 +24,12 @@ pulse-parts amount direction rate ranges forward reverse = go ranges (leb direct
     go : (t good first : Bool)
         → counted (pick (t && good && first) (pulsed forward amount rate) forward)
         (pick (t && good && not first) (pulsed reverse amount rate) reverse)
-        (pick t (pick good Done (Refused bad_argument)) (Refused out_of_range))
+        (pick t (pick good (Ok tt) (Err BadArgument)) (Err OutOfRange))
         ≡ pick t
         (pick good
-        (pick first (counted (pulsed forward amount rate) reverse Done) (counted forward (pulsed reverse amount rate) Done))
-        (counted forward reverse (Refused bad_argument)))
-        (counted forward reverse (Refused out_of_range))
+        (pick first (counted (pulsed forward amount rate) reverse (Ok tt)) (counted forward (pulsed reverse amount rate) (Ok tt)))
+        (counted forward reverse (Err BadArgument)))
+        (counted forward reverse (Err OutOfRange))
     go false good first = refl
     go true false first = refl
     go true true false = refl

@@ -1,6 +1,6 @@
 -- Laws of what a pulse and a settlement make of rows: what they set and move, and that they keep readings within their range.
-use Rattle.std.specs.Prelude.{ℕ, ◌<◌, ◌≡◌, refl, List, [], ◌∷◌, ◌++◌, true, get_or, set, take}
-use Rattle.std.proofs.Common.{arith}
+use Rattle.std.specs.Prelude.{ℕ, ◌<◌, ◌≡◌, refl, List, [], ◌∷◌, ◌++◌, true, length, get_or, set, take, drop}
+use Rattle.std.proofs.Common.{append-nil, length-drop, drop_of_length-le, arith}
 use Rattle.item_range.specs.Range.{within}
 use Rattle.item_range.proofs.RangeLaws.{within-iff}
 use Rattle.laws.specs.AllLaws.{all_take, all_set}
@@ -26,11 +26,16 @@ pub pulsed-set : (rows : Rows) (amount rate : ℕ) → set rows 0 (pulsed_row (g
 pulsed-set [] amount rate = refl
 pulsed-set (row ∷ rows) amount rate = refl
 
--- A settlement has row 0 before the first twelve rows.
-pub settled_fronts : (rows : Rows) → take 1 rows ++ take 12 rows ≡ settled rows
+-- A settlement has row 0 before the first twelve of thirteen rows.
+settled_fronts : (rows : Rows) → take 1 rows ++ take 12 rows ≡ settled rows
 unfolding settled
 settled_fronts [] = refl
 settled_fronts (row ∷ rows) = refl
+
+pub settled_behind : (rows moved : Rows) → length rows ≡ 13 → moved ≡ take 12 rows → take 1 rows ++ (moved ++ drop 12 (drop 1 rows)) ≡ settled rows
+settled_behind rows moved size e =
+    let none : drop 12 (drop 1 rows) ≡ [] = drop_of_length-le (drop 1 rows) {i = 12} (rw length-drop (omega arith)) in
+    rw (e, none, append-nil) (settled_fronts rows)
 
 -- A pulse and a settlement keep readings within their range.
 pub pulsed_in_range : (rows : Rows) (amount rate : ℕ) → RowsInRange rows → RowsInRange (pulsed rows amount rate)

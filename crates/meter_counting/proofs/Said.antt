@@ -1,5 +1,7 @@
 -- What the papers say of the answer to a host call, when it is refused, and that the readings are then as they were.
-use Rattle.std.specs.Prelude.{ℕ, ◌≤◌, ◌≡◌, [], Bool, true, ◌&&◌, ◌↔◌, leb, eqb}
+use Rattle.std.specs.Prelude.{ℕ, ◌≤◌, ◌≡◌, [], Bool, true, ◌&&◌, ◌↔◌, leb, eqb, Err, Ok, Result}
+use Rattle.frame.specs.Refusals.{number_of}
+use Rattle.frame.specs.declared.refusal.Refusal.{Refusal}
 use Rattle.std.proofs.Common.{sym, ◌∙◌, leb-true, le-leb}
 use Rattle.std.proofs.lemmas.Bool.{false≢true}
 use Rattle.std.proofs.Math.Bool.{and-eq-true_iff}
@@ -10,12 +12,10 @@ use Rattle.energy.specs.Energies.{Rows}
 use Rattle.meter_counting.specs.Counting.{energies_of, pulsed_by, settled_by}
 use Rattle.meter_counting.specs.Rows.{is_rate}
 use Rattle.meter_counting.specs.declared.CountedReadings.{CountedReadings}
-use Rattle.meter_counting.specs.declared.HostAnswer.{HostAnswer}
-use Rattle.meter_counting.specs.declared.HostAnswer.TheVariants.{Done, Refused}
 
-abbrev pub host_said : HostAnswer → Said
-host_said Done = values []
-host_said (Refused n) = refusal n
+abbrev pub host_said : Result Unit Refusal → Said
+host_said (Ok tt) = values []
+host_said (Err n) = refusal (number_of n)
 
 -- A direction 0 or 1, and a rate 1 to 4.
 abbrev pub Countable : ℕ → ℕ → Type 0

@@ -23,12 +23,8 @@ pub(crate) fn pulsed(rows: Rows, amount: u32, rate: u8) -> Rows
     }
     let column = rate as usize;
     let mut next = rows;
-    let mut row = next[0];
-    let total = reading::plus(row[0], amount);
-    let of_rate = reading::plus(row[column], amount);
-    row[0] = total;
-    row[column] = of_rate;
-    next[0] = row;
+    next[0][0] = reading::plus(rows[0][0], amount);
+    next[0][column] = reading::plus(rows[0][column], amount);
     next
 }
 
@@ -37,11 +33,6 @@ pub(crate) fn settled(rows: Rows) -> Rows
     ensures { result ≡ of_rows.settled rows }
 {
     let mut next = rows;
-    let mut i = 12;
-    while 0 < i {
-        let row = rows[i - 1];
-        next[i] = row;
-        i -= 1;
-    }
+    next[1..].copy_from_slice(&rows[..12]);
     next
 }

@@ -1,9 +1,9 @@
 -- Laws of the decision: how the checks fail, and what those of 14 say.
-use Rattle.std.specs.Prelude.{ℕ, ◌≤◌, ◌≡◌, refl, List, Bool, true, false, length}
+use Rattle.std.specs.Prelude.{ℕ, ◌≤◌, ◌≡◌, refl, List, Bool, true, false, length, Some}
+use Rattle.frame.specs.declared.refusal.Refusal.TheVariants.{SilentByRule}
 use Rattle.laws.specs.ChecksLaws.{AllHold, EachFailure, pass_or_any}
 use Rattle.laws.specs.Words.{Every}
 use Rattle.laws.specs.WordsLaws.{all_every}
-use Rattle.frame.specs.Refusals.{silent_by_rule}
 use Rattle.item_decimal.specs.Decimal.{Decimal}
 use Rattle.item_identifier.specs.Identifier.{identifier_of}
 use Rattle.item_command.specs.declared.Command.{Command}
@@ -11,7 +11,6 @@ use Rattle.item_command.specs.declared.Command.TheVariants.{ReadData, ReadAddres
 use Rattle.item.proofs.ContentLaws.{Range}
 use Rattle.item.specs.Table.{item_of}
 use Rattle.item.specs.declared.table.Item.{Item}
-use Rattle.item.specs.declared.table.Lookup.TheVariants.{Listed}
 use Rattle.meter_decision.specs.Request.{level_of, password_of, written_value, new_level_of}
 use Rattle.meter_decision.specs.Decision.{Failure, error_byte, silence, password_at, checks_of, failing, accepted, decided}
 use Rattle.meter_decision.specs.DecisionWords.{words_of}
@@ -29,7 +28,7 @@ fails_silently ChangePassword = false
 
 abbrev pub FailsAs : Command → Failure → Type 0
 FailsAs command (error_byte e) = fails_silently command ≡ false
-FailsAs command (silence n) = (fails_silently command ≡ true) × (n ≡ silent_by_rule)
+FailsAs command (silence n) = (fails_silently command ≡ true) × (n ≡ SilentByRule)
 
 pub checks-fail : (command : Command) (payload : List ℕ) (key : Bool) (passwords : List ℕ)
     → EachFailure (FailsAs command) (checks_of command payload key passwords)
@@ -75,7 +74,7 @@ pub record WriteHolds (payload : List ℕ) (key : Bool) (passwords : List ℕ) :
   pub least : 12 ≤ length payload
   pub most : length payload ≤ 50
   pub item : Item
-  pub listed : item_of (identifier_of payload) ≡ Listed item
+  pub listed : item_of (identifier_of payload) ≡ Some item
   pub writable : item.writable ≡ true
   pub key_on_lem : key ≡ true
   pub level : level_of payload ≤ 4

@@ -1,6 +1,9 @@
 -- The checks of each control say document 01's words, so that a decision is a failure exactly where its words are the first that do not
 -- hold, and the command is carried out exactly where every one holds.
-use Rattle.std.specs.Prelude.{ℕ, ◌+◌, ◌*◌, ◌≤◌, ◌≡◌, List, [], ◌∷◌, Bool, false, ◌↔◌, length, take, eqb}
+use Rattle.std.specs.Prelude.{ℕ, ◌+◌, ◌*◌, ◌≤◌, ◌≡◌, List, [], ◌∷◌, Bool, false, ◌↔◌, length, take, eqb, Err, None, Ok, Option, Result, Some}
+use Rattle.item.specs.declared.content.ContentError.{ContentError}
+use Rattle.item.specs.declared.content.ContentError.TheVariants.{NotDecimal, NotWritable, OutOfRange, WrongLength}
+use Rattle.item.specs.declared.table.Item.{Item}
 use Rattle.std.proofs.Math.Path.{refl}
 use Rattle.std.proofs.Common.{sym, ◌∙◌, ap, inl, inr, arith}
 use Rattle.std.proofs.Math.Bool.{true, and-eq-true_iff}
@@ -21,11 +24,7 @@ use Rattle.item_same.specs.SameLaws.{same-equal, equal-same}
 use Rattle.item_range.proofs.RangeLaws.{within-iff}
 use Rattle.item.specs.Content.{content_is_allowed}
 use Rattle.item.proofs.ContentLaws.{Range, content-allowed}
-use Rattle.item.specs.declared.content.Content.{Content}
-use Rattle.item.specs.declared.content.Content.TheVariants.{Allowed, NotWritable, WrongLength, NotDecimal, OutOfRange}
 use Rattle.item.specs.Table.{item_of, has_length}
-use Rattle.item.specs.declared.table.Lookup.{Lookup}
-use Rattle.item.specs.declared.table.Lookup.TheVariants.{Listed, NotListed}
 use Rattle.meter_decision.specs.Request.{item_asked, level_of, password_of, written_value, new_level_of}
 use Rattle.meter_decision.specs.Decision.{Failure, error_byte, silence, is_listed, is_writable, has_content, authorised, names_password, checks_of, failing, accepted, decided}
 use Rattle.meter_decision.specs.DecisionWords.{NamesItem, NamesPassword, RightPassword, words_of}
@@ -37,12 +36,12 @@ eqb_iff : (a b : ℕ) → (eqb a b ≡ true) ↔ (a ≡ b)
 eqb_iff a b = (eqb-true a b, eq-eqb a b)
 
 -- The test of a content holds only of what is allowed.
-allowed : (c : Content) → content_is_allowed c ≡ true → c ≡ Allowed
-allowed Allowed h = refl
-allowed NotWritable h = absurd (false≢true h)
-allowed WrongLength h = absurd (false≢true h)
-allowed (NotDecimal i) h = absurd (false≢true h)
-allowed OutOfRange h = absurd (false≢true h)
+allowed : (c : Result Unit ContentError) → content_is_allowed c ≡ true → c ≡ Ok tt
+allowed (Ok tt) h = refl
+allowed (Err NotWritable) h = absurd (false≢true h)
+allowed (Err WrongLength) h = absurd (false≢true h)
+allowed (Err (NotDecimal i)) h = absurd (false≢true h)
+allowed (Err OutOfRange) h = absurd (false≢true h)
 
 module _ (payload : List ℕ) where
   -- The identifier is in the table.
@@ -50,9 +49,9 @@ module _ (payload : List ℕ) where
   unfolding item_asked
   names-item = (from-test (item_of (identifier_of payload)) refl, λ named. rw named.1)
     where
-      from-test : (l : Lookup) → item_of (identifier_of payload) ≡ l → is_listed l ≡ true → NamesItem payload
-      from-test (Listed item) e h = (item, e)
-      from-test NotListed e h = absurd (false≢true h)
+      from-test : (l : Option Item) → item_of (identifier_of payload) ≡ l → is_listed l ≡ true → NamesItem payload
+      from-test (Some item) e h = (item, e)
+      from-test None e h = absurd (false≢true h)
 
   -- What is asked of the item named.
   module _ (named : NamesItem payload) where

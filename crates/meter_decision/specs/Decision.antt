@@ -1,8 +1,10 @@
 -- Document 01, "How the meter treats a frame": the table of checks by control, and the decision that they lead to.
-use Rattle.std.specs.Prelude.{ℕ, ◌+◌, ◌*◌, List, [], ◌∷◌, Bool, true, false, ◌&&◌, length, leb, eqb}
+use Rattle.frame.specs.declared.refusal.Refusal.{Refusal}
+use Rattle.std.specs.Prelude.{ℕ, ◌+◌, ◌*◌, List, [], ◌∷◌, Bool, true, false, ◌&&◌, length, leb, eqb, None, Option, Some}
+use Rattle.frame.specs.declared.refusal.Refusal.TheVariants.{SilentByRule}
+use Rattle.item.specs.declared.table.Item.{Item}
 use Rattle.laws.specs.Part.{part}
 use Rattle.laws.specs.Checks.{Check, check, first_failing}
-use Rattle.frame.specs.Refusals.{silent_by_rule}
 use Rattle.item_address.specs.Address.{is_good}
 use Rattle.item_command.specs.Reply.{other_error, no_such_data, not_authorised}
 use Rattle.item_command.specs.declared.Command.{Command}
@@ -13,33 +15,31 @@ use Rattle.item_same.specs.Same.{same}
 use Rattle.item_range.specs.Range.{within}
 use Rattle.item.specs.Content.{content_of, content_is_allowed}
 use Rattle.item.specs.Table.{has_length}
-use Rattle.item.specs.declared.table.Lookup.{Lookup}
-use Rattle.item.specs.declared.table.Lookup.TheVariants.{Listed, NotListed}
 use Rattle.meter_decision.specs.Request.{item_asked, level_of, password_of, written_value, new_level_of, new_password_of}
 use Rattle.meter_decision.specs.declared.Decision.{Decision}
 use Rattle.meter_decision.specs.declared.Decision.TheVariants.{Silent, Error, Read, OwnAddress, Write, NewAddress, NewPassword}
 
--- What a failing check answers with: an error byte, or silence with the refusal's number.
+-- What a failing check answers with: an error byte, or silence with the refusal.
 pub data Failure : Type 0 where
   error_byte : ℕ → Failure
-  silence : ℕ → Failure
+  silence : Refusal → Failure
 
 -- The password of a level, three bytes of ten passwords.
 unfoldable pub password_at : ℕ → List ℕ → List ℕ
 password_at level passwords = part (3 * level) 3 passwords
 
 -- Checks of what was looked up; of an identifier that is not listed none holds.
-abbrev pub is_listed : Lookup → Bool
-is_listed (Listed item) = true
-is_listed NotListed = false
+abbrev pub is_listed : Option Item → Bool
+is_listed (Some item) = true
+is_listed None = false
 
-abbrev pub is_writable : Lookup → Bool
-is_writable (Listed item) = item.writable
-is_writable NotListed = false
+abbrev pub is_writable : Option Item → Bool
+is_writable (Some item) = item.writable
+is_writable None = false
 
-abbrev pub has_content : Lookup → List ℕ → Bool
-has_content (Listed item) value = content_is_allowed (content_of item value)
-has_content NotListed value = false
+abbrev pub has_content : Option Item → List ℕ → Bool
+has_content (Some item) value = content_is_allowed (content_of item value)
+has_content None value = false
 
 -- The level is at most `most` and the password of that level is right: of 14 at most 04, of 18 at most the new level.
 unfoldable pub authorised : ℕ → ℕ → List ℕ → List ℕ → Bool
@@ -56,12 +56,12 @@ checks_of ReadData payload key passwords =
     ∷ check (is_listed (item_asked payload)) (error_byte no_such_data)
     ∷ []
 checks_of ReadAddress payload key passwords =
-    check (eqb (length payload) 0) (silence silent_by_rule)
+    check (eqb (length payload) 0) (silence SilentByRule)
     ∷ []
 checks_of WriteAddress payload key passwords =
-    check (eqb (length payload) 6) (silence silent_by_rule)
-    ∷ check key (silence silent_by_rule)
-    ∷ check (is_good payload) (silence silent_by_rule)
+    check (eqb (length payload) 6) (silence SilentByRule)
+    ∷ check key (silence SilentByRule)
+    ∷ check (is_good payload) (silence SilentByRule)
     ∷ []
 checks_of WriteData payload key passwords =
     check (within 12 50 (length payload)) (error_byte other_error)

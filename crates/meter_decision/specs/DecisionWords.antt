@@ -1,5 +1,6 @@
 -- Document 01's table of checks by control, in its own words and figures, with the error bytes.
-use Rattle.std.specs.Prelude.{ℕ, ◌+◌, ◌≤◌, ◌≡◌, List, [], ◌∷◌, Bool, true, length, take}
+use Rattle.frame.specs.declared.refusal.Refusal.TheVariants.{SilentByRule}
+use Rattle.std.specs.Prelude.{ℕ, ◌+◌, ◌≤◌, ◌≡◌, List, [], ◌∷◌, Bool, true, length, take, Some}
 use Rattle.laws.specs.Words.{Words, done, says}
 use Rattle.item_address.specs.Address.{Good}
 use Rattle.item_command.specs.declared.Command.{Command}
@@ -9,13 +10,12 @@ use Rattle.item_identifier.specs.Identifier.{identifier_of}
 use Rattle.item.proofs.ContentLaws.{Range}
 use Rattle.item.specs.Table.{item_of}
 use Rattle.item.specs.declared.table.Item.{Item}
-use Rattle.item.specs.declared.table.Lookup.TheVariants.{Listed}
 use Rattle.meter_decision.specs.Request.{level_of, password_of, written_value, new_level_of, new_password_of}
 use Rattle.meter_decision.specs.Decision.{Failure, error_byte, silence, password_at}
 
 -- The identifier at the front of the data is in the table, as this item.
 abbrev pub NamesItem : List ℕ → Type 0
-NamesItem payload = (item : Item) × (item_of (identifier_of payload) ≡ Listed item)
+NamesItem payload = (item : Item) × (item_of (identifier_of payload) ≡ Some item)
 
 -- The identifier at the front of the data is 04 00 0C n, DI3 first, with n one more than the new level, 00 to 09.
 abbrev pub NamesPassword : List ℕ → Type 0
@@ -32,12 +32,12 @@ words_of ReadData payload key passwords =
     (λ _. says (NamesItem payload) (error_byte 0x02)
     (λ _. done))
 words_of ReadAddress payload key passwords =
-    says (length payload ≡ 0) (silence 4)
+    says (length payload ≡ 0) (silence SilentByRule)
     (λ _. done)
 words_of WriteAddress payload key passwords =
-    says (length payload ≡ 6) (silence 4)
-    (λ _. says (key ≡ true) (silence 4)
-    (λ _. says (Good payload) (silence 4)
+    says (length payload ≡ 6) (silence SilentByRule)
+    (λ _. says (key ≡ true) (silence SilentByRule)
+    (λ _. says (Good payload) (silence SilentByRule)
     (λ _. done)))
 words_of WriteData payload key passwords =
     says ((12 ≤ length payload) × (length payload ≤ 50)) (error_byte 0x01)

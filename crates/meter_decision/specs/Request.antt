@@ -1,12 +1,12 @@
 -- The parts of a command's data, and the item that they ask for.
-use Rattle.std.specs.Prelude.{ℕ, List, get_or, drop}
+use Rattle.std.specs.Prelude.{ℕ, List, get_or, drop, Option}
+use Rattle.item.specs.declared.table.Item.{Item}
 use Rattle.laws.specs.Part.{part}
 use Rattle.item_identifier.specs.Identifier.{identifier_of}
 use Rattle.item.specs.Table.{item_of}
-use Rattle.item.specs.declared.table.Lookup.{Lookup}
 
 -- What the table has for the identifier.
-unfoldable pub item_asked : List ℕ → Lookup
+unfoldable pub item_asked : List ℕ → Option Item
 item_asked payload = item_of (identifier_of payload)
 
 -- Data of 14: identifier, level, password, operator code, value. Of 18: identifier, old level and password, new level and password.

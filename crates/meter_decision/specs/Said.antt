@@ -1,12 +1,13 @@
 -- What the papers say of a decision.
 use Rattle.std.specs.Prelude.{[], ◌∷◌}
+use Rattle.frame.specs.Refusals.{number_of}
 use Rattle.laws.specs.Said.{Said, values, error_byte, refusal}
 use Rattle.meter_decision.specs.declared.Decision.{Decision}
 use Rattle.meter_decision.specs.declared.Decision.TheVariants.{Silent, Error, Read, OwnAddress, Write, NewAddress, NewPassword}
 
 -- Silence by the number of its refusal, an error byte, or what is carried out.
 abbrev pub decision_said : Decision → Said
-decision_said (Silent n) = refusal n
+decision_said (Silent n) = refusal (number_of n)
 decision_said (Error byte) = error_byte byte
 decision_said (Read identifier) = values (identifier ∷ [])
 decision_said OwnAddress = values []

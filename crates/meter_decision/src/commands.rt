@@ -5,12 +5,11 @@ ghost use Rattle.meter_decision.specs.Decision.{decided};
 use crate::Decision;
 use crate::authority::{authority, names_password};
 use crate::request::{
-    PasswordRequest, ReadRequest, Tested, WriteRequest, check_of, password_request, read_request,
-    write_request,
+    PasswordRequest, WriteRequest, password_request, read_request, write_request,
 };
-use frame::refusal::SILENT_BY_RULE;
-use item::content::{Content, content_of};
-use item::table::{Lookup, item_of};
+use frame::refusal::Refusal;
+use item::content::content_of;
+use item::table::item_of;
 use item_address::is_good;
 use item_command::Command;
 use item_command::reply::{NO_SUCH_DATA, NOT_AUTHORISED, OTHER_ERROR};
@@ -21,10 +20,10 @@ use item_decimal::all_decimal;
 pub(crate) fn read_data(payload: &[u8]) -> Decision
     ensures { result ≡ decided Command.ReadData payload.now false [] }
 {
-    let ReadRequest::Identifier(identifier) = read_request(payload) else {
+    let Some(identifier) = read_request(payload) else {
         return Decision::Error(OTHER_ERROR);
     };
-    let Lookup::Listed(_) = item_of(identifier) else {
+    let Some(_) = item_of(identifier) else {
         return Decision::Error(NO_SUCH_DATA);
     };
     Decision::Read(identifier)
@@ -35,9 +34,9 @@ pub(crate) fn read_data(payload: &[u8]) -> Decision
 pub(crate) fn read_address(payload: &[u8]) -> Decision
     ensures { result ≡ decided Command.ReadAddress payload.now false [] }
 {
-    let Tested::Holds = check_of(payload.len() == 0) else {
-        return Decision::Silent(SILENT_BY_RULE);
-    };
+    if payload.len() != 0 {
+        return Decision::Silent(Refusal::SilentByRule);
+    }
     Decision::OwnAddress
 }
 
@@ -46,29 +45,29 @@ pub(crate) fn read_address(payload: &[u8]) -> Decision
 pub(crate) fn write_data(payload: &[u8], key: bool, passwords: [u8; 30]) -> Decision
     ensures { result ≡ decided Command.WriteData payload.now key passwords }
 {
-    let WriteRequest::Parsed { identifier, level } = write_request(payload) else {
+    let Some(request) = write_request(payload) else {
         return Decision::Error(OTHER_ERROR);
     };
-    let Lookup::Listed(item) = item_of(identifier) else {
+    let Some(item) = item_of(request.identifier) else {
         return Decision::Error(NO_SUCH_DATA);
     };
-    let Tested::Holds = check_of(item.writable) else {
+    if !item.writable {
         return Decision::Error(NOT_AUTHORISED);
-    };
-    let Tested::Holds = check_of(key) else {
+    }
+    if !key {
         return Decision::Error(NOT_AUTHORISED);
-    };
-    let Tested::Holds = authority(passwords, 4, level, &payload[5..8]) else {
+    }
+    if !authority(passwords, 4, request.level, &payload[5..8]) {
         return Decision::Error(NOT_AUTHORISED);
-    };
+    }
     let value = &payload[12..];
-    let Tested::Holds = check_of(value.len() == item.length) else {
+    if value.len() != item.length {
+        return Decision::Error(OTHER_ERROR);
+    }
+    let Ok(()) = content_of(item, value) else {
         return Decision::Error(OTHER_ERROR);
     };
-    let Content::Allowed = content_of(item, value) else {
-        return Decision::Error(OTHER_ERROR);
-    };
-    Decision::Write(identifier)
+    Decision::Write(request.identifier)
 }
 
 // 15: L = 6, key on, new address good, else silence.
@@ -76,17 +75,17 @@ pub(crate) fn write_data(payload: &[u8], key: bool, passwords: [u8; 30]) -> Deci
 pub(crate) fn write_address(payload: &[u8], key: bool) -> Decision
     ensures { result ≡ decided Command.WriteAddress payload.now key [] }
 {
-    let Tested::Holds = check_of(payload.len() == 6) else {
-        return Decision::Silent(SILENT_BY_RULE);
-    };
-    let Tested::Holds = check_of(key) else {
-        return Decision::Silent(SILENT_BY_RULE);
-    };
+    if payload.len() != 6 {
+        return Decision::Silent(Refusal::SilentByRule);
+    }
+    if !key {
+        return Decision::Silent(Refusal::SilentByRule);
+    }
     let mut address = [0u8; 6];
     slice_bytes::copy(payload, &mut address);
-    let Tested::Holds = check_of(is_good(address)) else {
-        return Decision::Silent(SILENT_BY_RULE);
-    };
+    if !is_good(address) {
+        return Decision::Silent(Refusal::SilentByRule);
+    }
     Decision::NewAddress
 }
 
@@ -95,25 +94,20 @@ pub(crate) fn write_address(payload: &[u8], key: bool) -> Decision
 pub(crate) fn change_password(payload: &[u8], key: bool, passwords: [u8; 30]) -> Decision
     ensures { result ≡ decided Command.ChangePassword payload.now key passwords }
 {
-    let PasswordRequest::Parsed {
-        identifier,
-        old,
-        new,
-    } = password_request(payload)
-    else {
+    let Some(request) = password_request(payload) else {
         return Decision::Error(OTHER_ERROR);
     };
-    let Tested::Holds = names_password(identifier, new) else {
+    if !names_password(request.identifier, request.new) {
         return Decision::Error(NO_SUCH_DATA);
-    };
-    let Tested::Holds = check_of(key) else {
+    }
+    if !key {
         return Decision::Error(NOT_AUTHORISED);
-    };
-    let Tested::Holds = authority(passwords, new, old, &payload[5..8]) else {
+    }
+    if !authority(passwords, request.new, request.old, &payload[5..8]) {
         return Decision::Error(NOT_AUTHORISED);
-    };
-    let Tested::Holds = check_of(all_decimal(&payload[9..12])) else {
+    }
+    if !all_decimal(&payload[9..12]) {
         return Decision::Error(OTHER_ERROR);
-    };
-    Decision::NewPassword(new)
+    }
+    Decision::NewPassword(request.new)
 }

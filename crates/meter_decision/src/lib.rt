@@ -10,13 +10,14 @@ ghost use Rattle.std.specs.Prelude.{◌≡◌};
 ghost use Rattle.meter_decision.specs.Decision.{decided};
 
 use commands::{change_password, read_address, read_data, write_address, write_data};
+use frame::refusal::Refusal;
 use item_command::Command;
 
 // What is answered, or carried out.
 #[derive(Clone, Copy)]
 pub enum Decision {
-    // Silence, with the refusal's number.
-    Silent(u8),
+    // Silence, with its refusal.
+    Silent(Refusal),
     // An error reply, with its byte.
     Error(u8),
     // The value of an identifier is read.

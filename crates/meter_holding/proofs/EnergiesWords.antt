@@ -1,12 +1,11 @@
 -- What a meter holds for each identifier of energies, in document 01's coordinates: the readings at row s and column t.
-use Rattle.std.specs.Prelude.{ℕ, ◌+◌, ◌*◌, ◌≤◌, ◌≡◌, refl, List, [], ◌∷◌, map, length, eqb}
+use Rattle.std.specs.Prelude.{ℕ, ◌+◌, ◌*◌, ◌≤◌, ◌≡◌, refl, List, [], ◌∷◌, map, length, eqb, Some}
 use Rattle.laws.specs.Test.{pick}
 use Rattle.item_decimal.specs.Decimal.{Decimal, decoded}
 use Rattle.item.specs.Table.{item_of, read_only}
 use Rattle.item.proofs.TableWords.{EnergyListed, one, all_t, all_s, forward, reverse, table-words}
 use Rattle.item.specs.declared.table.Item.{Item}
 use Rattle.item.specs.declared.table.Kind.TheVariants.{Energy}
-use Rattle.item.specs.declared.table.Lookup.TheVariants.{Listed}
 use Rattle.energy.specs.Energies.{Rows, number_at}
 use Rattle.energy.proofs.RangeLaws.{RowsInRange}
 use Rattle.energy.specs.Columns.{columns_bytes}
@@ -31,15 +30,15 @@ pub record GivesReadings (front : ℕ) (rows : Rows) (identifier : ℕ) (bytes :
 
 module _ (identifier : ℕ) (address registers : List ℕ) (f r : Rows) where
   -- What is held for an identifier that is listed as energies.
-  held-energies : (direction rate rates row rows n : ℕ) → item_of identifier ≡ Listed (read_only (Energy direction rate rates row rows) n)
+  held-energies : (direction rate rates row rows n : ℕ) → item_of identifier ≡ Some (read_only (Energy direction rate rates row rows) n)
       → value_for identifier address registers f r ≡ columns_bytes (pick (eqb direction 0) f r) rate rates row rows
   unfolding value_for value_held location_of held_at
   held-energies direction rate rates row rows n listed = rw listed
 
   -- One direction's readings, by how its identifiers are listed.
   module _ (direction front : ℕ) (rows : Rows) (of-direction : pick (eqb direction 0) f r ≡ rows) (ranges : RowsInRange rows)
-      (listed : (item : Item) → EnergyListed direction front identifier item → item_of identifier ≡ Listed item) where
-    columns : (rate rates row span n : ℕ) → item_of identifier ≡ Listed (read_only (Energy direction rate rates row span) n)
+      (listed : (item : Item) → EnergyListed direction front identifier item → item_of identifier ≡ Some item) where
+    columns : (rate rates row span n : ℕ) → item_of identifier ≡ Some (read_only (Energy direction rate rates row span) n)
         → (length (value_for identifier address registers f r) ≡ 4 * rates * span)
         × Decimal (value_for identifier address registers f r)
         × (decoded (rates * span) (value_for identifier address registers f r) ≡ columns_numbers rows rate rates row span)

@@ -1,5 +1,5 @@
 -- Laws of what a meter holds: the lengths of values, the locations of registers, and a value put in another's place.
-use Rattle.std.specs.Prelude.{ℕ, ◌+◌, ◌*◌, ◌-◌, ◌≤◌, ◌<◌, ◌≡◌, refl, List, ◌∷◌, ◌++◌, Bool, true, false, take, drop, get_or, replicate, leb}
+use Rattle.std.specs.Prelude.{ℕ, ◌+◌, ◌*◌, ◌-◌, ◌≤◌, ◌<◌, ◌≡◌, refl, List, ◌∷◌, ◌++◌, Bool, true, false, take, drop, get_or, replicate, leb, Ok, Some}
 use Rattle.std.proofs.Math.Path.{sym}
 use Rattle.std.proofs.Common.{ap, ◌∙◌, true≢false, get_or-take, get_or-drop}
 use native.Mathlib.Omega.{arith}
@@ -13,11 +13,9 @@ use Rattle.item.proofs.TableLaws.{Within, listed_rule, writable-once}
 use Rattle.item.specs.declared.table.Kind.{Kind}
 use Rattle.item.specs.declared.table.Kind.TheVariants.{Date, Time, DemandPeriod, Slip, Address, MeterNumber, SettlementDay}
 use Rattle.item.specs.declared.table.Item.{Item}
-use Rattle.item.specs.declared.table.Lookup.TheVariants.{Listed}
 use Rattle.energy.specs.Energies.{Rows}
 use Rattle.energy.proofs.ColumnsLaws.{columns-length}
 use Rattle.meter_holding.specs.Holding.{location_of, held_at, value_held, registers_with, value_written, registers_after, FitsAt}
-use Rattle.meter_holding.specs.declared.Held.TheVariants.{Length}
 use Rattle.laws.specs.Memory.{outcome, over}
 use Rattle.laws.specs.Part.{with_part}
 use Rattle.laws.specs.PartLaws.{part_length, Apart, before, behind, put-length, put_back, put-apart}
@@ -55,7 +53,7 @@ Located item (Register at) =
     × (at + item.length ≤ 21)
     × (take item.length (drop at kind_of_each_byte) ≡ replicate item.length item.kind)
 
-located : (identifier : ℕ) (item : Item) → item_of identifier ≡ Listed item → Located item (location_of item.kind)
+located : (identifier : ℕ) (item : Item) → item_of identifier ≡ Some item → Located item (location_of item.kind)
 unfolding other_rows location_of kind_of_each_byte
 located =
     listed_rule {P = λ identifier item. Located item (location_of item.kind)}
@@ -87,7 +85,7 @@ registers-apart item another at other p q differ = go (leb (other + another.leng
         let right : at - other < another.length = omega (arith, leb-false) in
         absurd (differ (cc (kind_at item at (other - at) p left, kind_at another other (at - other) q right)))
 
-module _ (identifier : ℕ) (item : Item) (listed : item_of identifier ≡ Listed item) where
+module _ (identifier : ℕ) (item : Item) (listed : item_of identifier ≡ Some item) where
   -- A listed item's bytes fit at its location.
   pub listed_fits_at : FitsAt item.length (location_of item.kind)
   listed_fits_at = go (location_of item.kind) (located identifier item listed)
@@ -100,7 +98,7 @@ module _ (identifier : ℕ) (item : Item) (listed : item_of identifier ≡ Liste
   -- The value of a listed item is written where there is room for it.
   pub value_written_lem : (address registers : List ℕ) (forward reverse : Rows) (m : List ℕ) → item.length ≤ length m
       → value_written identifier address registers forward reverse m
-      ≡ outcome (Length item.length) (over (value_held item address registers forward reverse) m)
+      ≡ outcome (Ok item.length) (over (value_held item address registers forward reverse) m)
   unfolding value_written
   value_written_lem address registers forward reverse m room = rw (listed, le-leb _ _ room)
 
@@ -145,7 +143,7 @@ module _ (identifier : ℕ) (item : Item) (listed : item_of identifier ≡ Liste
           go OwnAddress p = absurd (true≢false (sym w ∙ p.0))
           go (Register at) p = put_back at value registers item.length (omega arith) e
 
-      pub value-other : item.writable ≡ true → (other : ℕ) (another : Item) → item_of other ≡ Listed another → (other ≡ identifier → ⊥)
+      pub value-other : item.writable ≡ true → (other : ℕ) (another : Item) → item_of other ≡ Some another → (other ≡ identifier → ⊥)
           → (forward reverse : Rows) → value_held another address (registers_with (location_of item.kind) value registers) forward reverse ≡ value_held another address registers forward reverse
       unfolding value_held held_at registers_with
       value-other w other another h differ forward reverse =

@@ -1,5 +1,7 @@
 -- Document 01, "What the meter holds": the value of each item, by a meter's address, registers and readings, and the ranges of these.
-use Rattle.std.specs.Prelude.{ℕ, ◌+◌, ◌*◌, List, [], ◌∷◌, Bool, ◌&&◌, length, leb, eqb, ◌≡◌, ◌≤◌}
+use Rattle.std.specs.Prelude.{ℕ, ◌+◌, ◌*◌, List, [], ◌∷◌, Bool, ◌&&◌, length, leb, eqb, ◌≡◌, ◌≤◌, Err, None, Ok, Option, Result, Some}
+use Rattle.meter_holding.specs.declared.HeldError.{HeldError}
+use Rattle.meter_holding.specs.declared.HeldError.TheVariants.{NotListed, TooLittleMemory}
 use Rattle.laws.specs.Memory.{Outcome, outcome, over}
 use Rattle.laws.specs.Test.{pick}
 use Rattle.laws.specs.Part.{part, with_part}
@@ -10,12 +12,8 @@ use Rattle.item.proofs.TableLaws.{Within}
 use Rattle.item.specs.declared.table.Kind.{Kind}
 use Rattle.item.specs.declared.table.Kind.TheVariants.{Energy, Date, Time, DemandPeriod, Slip, Address, MeterNumber, SettlementDay}
 use Rattle.item.specs.declared.table.Item.{Item}
-use Rattle.item.specs.declared.table.Lookup.{Lookup}
-use Rattle.item.specs.declared.table.Lookup.TheVariants.{Listed, NotListed}
 use Rattle.energy.specs.Energies.{Rows, rows_in_range}
 use Rattle.energy.specs.Columns.{columns_bytes}
-use Rattle.meter_holding.specs.declared.Held.{Held}
-use Rattle.meter_holding.specs.declared.Held.TheVariants as held
 use Rattle.meter_holding.specs.declared.location.Location.{Location}
 use Rattle.meter_holding.specs.declared.location.Location.TheVariants.{Readings, OwnAddress, Register}
 
@@ -42,9 +40,9 @@ unfoldable pub value_held : Item → List ℕ → List ℕ → Rows → Rows →
 value_held item address registers forward reverse = held_at (location_of item.kind) item.length address registers forward reverse
 
 -- The value held for what was looked up, and for an identifier: of one that is not listed none.
-abbrev pub value_of : Lookup → List ℕ → List ℕ → Rows → Rows → List ℕ
-value_of (Listed item) address registers forward reverse = value_held item address registers forward reverse
-value_of NotListed address registers forward reverse = []
+abbrev pub value_of : Option Item → List ℕ → List ℕ → Rows → Rows → List ℕ
+value_of (Some item) address registers forward reverse = value_held item address registers forward reverse
+value_of None address registers forward reverse = []
 
 unfoldable pub value_for : ℕ → List ℕ → List ℕ → Rows → Rows → List ℕ
 value_for identifier address registers forward reverse = value_of (item_of identifier) address registers forward reverse
@@ -67,20 +65,20 @@ fresh_registers =
     ∷ 0x99 ∷ []
 
 -- What the writing of a value answers and leaves: an identifier that is not listed, or too little memory, leaves it as it was.
-abbrev pub written_of : Lookup → List ℕ → List ℕ → Rows → Rows → List ℕ → Outcome Held
-written_of NotListed address registers forward reverse m = outcome held.NotListed m
-written_of (Listed item) address registers forward reverse m =
+abbrev pub written_of : Option Item → List ℕ → List ℕ → Rows → Rows → List ℕ → Outcome (Result ℕ HeldError)
+written_of None address registers forward reverse m = outcome (Err NotListed) m
+written_of (Some item) address registers forward reverse m =
     pick (leb item.length (length m))
-    (outcome (held.Length item.length) (over (value_held item address registers forward reverse) m))
-    (outcome held.TooLittleMemory m)
+    (outcome (Ok item.length) (over (value_held item address registers forward reverse) m))
+    (outcome (Err TooLittleMemory) m)
 
-unfoldable pub value_written : ℕ → List ℕ → List ℕ → Rows → Rows → List ℕ → Outcome Held
+unfoldable pub value_written : ℕ → List ℕ → List ℕ → Rows → Rows → List ℕ → Outcome (Result ℕ HeldError)
 value_written identifier address registers forward reverse m = written_of (item_of identifier) address registers forward reverse m
 
 -- The registers after a write of an identifier: as they were where it is not listed, or the value not as long as its item.
-abbrev pub registers_of : Lookup → List ℕ → List ℕ → List ℕ
-registers_of NotListed value registers = registers
-registers_of (Listed item) value registers = registers_with (location_of item.kind) value registers
+abbrev pub registers_of : Option Item → List ℕ → List ℕ → List ℕ
+registers_of None value registers = registers
+registers_of (Some item) value registers = registers_with (location_of item.kind) value registers
 
 unfoldable pub registers_after : ℕ → List ℕ → List ℕ → List ℕ
 registers_after identifier value registers =

@@ -6,40 +6,37 @@ ghost use Rattle.energy.specs.Columns.{column_bytes, columns_bytes};
 use energy::Rows;
 use energy::reading::bytes_of;
 
-// Writes one column at `count` rows from `row` on to the front of the output buffer.
-fn write_column(rows: &Rows, rate: usize, row: usize, count: usize, out: &mut [u8])
-    requires rate_bound { (rate < 5) × (row + count ≤ 13) }
-    requires count_in_bounds { 4 * count ≤ length out.old }
-    ensures { out.new ≡ over (column_bytes rows.now rate row count) out.old }
-{
-    let mut i = 0;
-    let mut at = 0;
-    while i < count {
-        let bytes = bytes_of(rows[row + i][rate]);
-        slice_bytes::copy(&bytes, &mut out[at..]);
-        i += 1;
-        at += 4;
-    }
+// The readings that are read of a direction: `rates` columns from `rate` on, each at `rows` rows from `row` on.
+#[derive(Clone, Copy)]
+pub(crate) struct Columns {
+    pub rate: usize,
+    pub rates: usize,
+    pub row: usize,
+    pub rows: usize,
 }
 
-// Writes `count` columns from `rate` on, each at `span` rows from `row` on, to the front of the output buffer.
-pub(crate) fn write_columns(
-    rows: &Rows,
-    rate: usize,
-    count: usize,
-    row: usize,
-    span: usize,
-    out: &mut [u8],
-)
-    requires count_bound { (rate + count ≤ 5) × (row + span ≤ 13) }
-    requires span_in_bounds { 4 * count * span ≤ length out.old }
-    ensures { out.new ≡ over (columns_bytes rows.now rate count row span) out.old }
-{
-    let mut i = 0;
-    let mut at = 0;
-    while i < count {
-        write_column(rows, rate + i, row, span, &mut out[at..]);
-        i += 1;
-        at += 4 * span;
+impl Columns {
+    // Writes the column of one rate to the front of the output buffer; by places, since no proof knows behind a loop what was written
+    // through `chunks_exact_mut`.
+    fn write_one(self, readings: &Rows, rate: usize, out: &mut [u8])
+        requires rate_bound { (rate < 5) × (self.row + self.rows ≤ 13) }
+        requires rows_in_bounds { 4 * self.rows ≤ length out.old }
+        ensures { out.new ≡ over (column_bytes readings.now rate self.row self.rows) out.old }
+    {
+        for i in 0..self.rows {
+            let bytes = bytes_of(readings[self.row + i][rate]);
+            slice_bytes::copy(&bytes, &mut out[4 * i..]);
+        }
+    }
+
+    // Writes all columns to the front of the output buffer.
+    pub(crate) fn write(self, readings: &Rows, out: &mut [u8])
+        requires rates_bound { (self.rate + self.rates ≤ 5) × (self.row + self.rows ≤ 13) }
+        requires rows_in_bounds { 4 * self.rates * self.rows ≤ length out.old }
+        ensures { out.new ≡ over (columns_bytes readings.now self.rate self.rates self.row self.rows) out.old }
+    {
+        for i in 0..self.rates {
+            self.write_one(readings, self.rate + i, &mut out[4 * self.rows * i..]);
+        }
     }
 }

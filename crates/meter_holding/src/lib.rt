@@ -11,12 +11,12 @@ ghost use Rattle.laws.specs.Part.{with_part};
 ghost use Rattle.meter_holding.specs.Holding.{location_of, value_held, within_ranges, fresh_registers, value_written, registers_after};
 ghost use Rattle.meter_holding.specs.Holding.{FitsAt};
 
-use columns::write_columns;
-use energy::{Rows, rows};
-use item::table::{Item, Lookup, item_of};
+use columns::Columns;
+use energy::{Energies, rows};
+use item::table::{Item, item_of};
 use item_address::is_good;
 use item_decimal::all_decimal;
-use location::{Location, location_of};
+use location::Location;
 
 // Date 00-01-01 with WW 06, time zero, period 15, slip 1, meter number zero, first settlement day 0100, others 9999.
 const FRESH_REGISTERS: [u8; 21] = [
@@ -24,11 +24,9 @@ const FRESH_REGISTERS: [u8; 21] = [
     0x01, 0x99, 0x99, 0x99, 0x99,
 ];
 
-// The answer to the writing of a value; only `Length` leaves bytes in the output buffer.
+// Why no value is written; the output buffer stays as it was.
 #[derive(Clone, Copy)]
-pub enum Held {
-    // The value's length.
-    Length(usize),
+pub enum HeldError {
     // No such identifier.
     NotListed,
     // An output buffer shorter than the value.
@@ -44,38 +42,30 @@ pub fn fresh_registers() -> [u8; 21]
 
 // Whether what a meter holds is within document 01's ranges: the address good, every register decimal, every reading in range.
 #[tactic(auto, unfolding(crate::specs::Holding::within_ranges))]
-pub fn within_ranges(address: [u8; 6], registers: [u8; 21], forward: &Rows, reverse: &Rows) -> bool
-    ensures { result ≡ within_ranges address registers forward.now reverse.now }
+pub fn within_ranges(address: [u8; 6], registers: [u8; 21], energies: &Energies) -> bool
+    ensures { result ≡ within_ranges address registers energies.now.forward energies.now.reverse }
 {
-    if !is_good(address) {
-        return false;
-    }
-    if !all_decimal(&registers) {
-        return false;
-    }
-    if !rows::in_range(forward) {
-        return false;
-    }
-    rows::in_range(reverse)
+    is_good(address)
+        && all_decimal(&registers)
+        && rows::in_range(&energies.forward)
+        && rows::in_range(&energies.reverse)
 }
 
-// Writes the value held for an item to the front of the output buffer.
+// Writes the value held for an item to the front of the output buffer. It takes a meter's parts one by one as `write_value` does: the
+// meter's own type stands in a crate above this one.
 #[tactic(auto, unfolding(crate::specs::Holding::value_held, crate::specs::Holding::held_at))]
 fn write_held(
     item: Item,
     address: [u8; 6],
     registers: [u8; 21],
-    forward: &Rows,
-    reverse: &Rows,
+    energies: &Energies,
     out: &mut [u8],
 )
     requires fits_at { FitsAt item.length (location_of item.kind) }
     requires length_in_bounds { item.length ≤ length out.old }
-    ensures { out.new ≡ over (value_held item address registers forward.now reverse.now) out.old }
+    ensures { out.new ≡ over (value_held item address registers energies.now.forward energies.now.reverse) out.old }
 {
-    let kind = item.kind;
-    let location = location_of(kind);
-    match location {
+    match Location::from(item.kind) {
         Location::Readings {
             direction,
             rate,
@@ -83,42 +73,43 @@ fn write_held(
             row,
             rows,
         } => {
-            if direction == 0 {
-                write_columns(forward, rate, rates, row, rows, out);
-                return;
-            }
-            write_columns(reverse, rate, rates, row, rows, out);
+            let columns = Columns {
+                rate,
+                rates,
+                row,
+                rows,
+            };
+            let readings = if direction == 0 {
+                &energies.forward
+            } else {
+                &energies.reverse
+            };
+            columns.write(readings, out);
         }
-        Location::OwnAddress => {
-            slice_bytes::copy(&address, out);
-        }
-        Location::Register(at) => {
-            let end = at + item.length;
-            slice_bytes::copy(&registers[at..end], out);
-        }
+        Location::OwnAddress => slice_bytes::copy(&address, out),
+        Location::Register(at) => slice_bytes::copy(&registers[at..at + item.length], out),
     }
 }
 
-// Writes the value held for an identifier to the front of the output buffer.
+// Writes the value held for an identifier to the front of the output buffer, and answers its length.
 #[tactic(auto, unfolding(crate::specs::Holding::value_written))]
 pub fn write_value(
     identifier: u32,
     address: [u8; 6],
     registers: [u8; 21],
-    forward: &Rows,
-    reverse: &Rows,
+    energies: &Energies,
     out: &mut [u8],
-) -> Held
-    ensures { outcome result out.new ≡ value_written identifier address registers forward.now reverse.now out.old }
+) -> Result<usize, HeldError>
+    ensures { outcome result out.new ≡ value_written identifier address registers energies.now.forward energies.now.reverse out.old }
 {
-    let Lookup::Listed(item) = item_of(identifier) else {
-        return Held::NotListed;
+    let Some(item) = item_of(identifier) else {
+        return Err(HeldError::NotListed);
     };
     if out.len() < item.length {
-        return Held::TooLittleMemory;
+        return Err(HeldError::TooLittleMemory);
     }
-    write_held(item, address, registers, forward, reverse, out);
-    Held::Length(item.length)
+    write_held(item, address, registers, energies, out);
+    Ok(item.length)
 }
 
 // The registers with other bytes from a place on.
@@ -127,8 +118,7 @@ fn put(registers: [u8; 21], at: usize, value: &[u8]) -> [u8; 21]
     ensures { result ≡ with_part at value.now registers }
 {
     let mut next = registers;
-    let end = at + value.len();
-    slice_bytes::copy(value, &mut next[at..end]);
+    next[at..at + value.len()].copy_from_slice(value);
     next
 }
 
@@ -137,17 +127,14 @@ fn put(registers: [u8; 21], at: usize, value: &[u8]) -> [u8; 21]
 pub fn with_value(registers: [u8; 21], identifier: u32, value: &[u8]) -> [u8; 21]
     ensures { result ≡ registers_after identifier value.now registers }
 {
-    let Lookup::Listed(item) = item_of(identifier) else {
+    let Some(item) = item_of(identifier) else {
         return registers;
     };
     if value.len() != item.length {
         return registers;
     }
-    let kind = item.kind;
-    let location = location_of(kind);
-    match location {
-        Location::Readings { .. } => registers,
-        Location::OwnAddress => registers,
+    match Location::from(item.kind) {
+        Location::Readings { .. } | Location::OwnAddress => registers,
         Location::Register(at) => put(registers, at, value),
     }
 }

@@ -19,30 +19,32 @@ pub enum Location {
 }
 
 // The location of each kind of item. No two registers of listed items share a byte.
-#[tactic(auto, unfolding(crate::specs::Holding::location_of))]
-pub(crate) fn location_of(kind: Kind) -> Location
-    ensures { result ≡ location_of kind }
-{
-    match kind {
-        Kind::Energy {
-            direction,
-            rate,
-            rates,
-            row,
-            rows,
-        } => Location::Readings {
-            direction,
-            rate,
-            rates,
-            row,
-            rows,
-        },
-        Kind::Date => Location::Register(0),
-        Kind::Time => Location::Register(4),
-        Kind::DemandPeriod => Location::Register(7),
-        Kind::Slip => Location::Register(8),
-        Kind::Address => Location::OwnAddress,
-        Kind::MeterNumber => Location::Register(9),
-        Kind::SettlementDay(n) => Location::Register(13 + 2 * n as usize),
+impl From<Kind> for Location {
+    ghost from_gives = { λ kind location. location ≡ location_of kind };
+
+    #[tactic(auto, unfolding(crate::specs::Holding::location_of))]
+    fn from(kind: Kind) -> Self {
+        match kind {
+            Kind::Energy {
+                direction,
+                rate,
+                rates,
+                row,
+                rows,
+            } => Location::Readings {
+                direction,
+                rate,
+                rates,
+                row,
+                rows,
+            },
+            Kind::Date => Location::Register(0),
+            Kind::Time => Location::Register(4),
+            Kind::DemandPeriod => Location::Register(7),
+            Kind::Slip => Location::Register(8),
+            Kind::Address => Location::OwnAddress,
+            Kind::MeterNumber => Location::Register(9),
+            Kind::SettlementDay(n) => Location::Register(13 + 2 * n as usize),
+        }
     }
 }

@@ -9,21 +9,14 @@ use std::io::{self, Cursor, ErrorKind, Read, Stderr, Write};
 // Whether there is an argument of this number; the program's name is number 0.
 fn is_there<R: Env>(rt: &R, i: usize) -> bool {
     let mut nothing = [0u8; 1];
-    match rt.arg(i, &mut nothing) {
-        Ok(_) => true,
-        Err(FillError::TooLong) => true,
-        Err(FillError::NotPresent) => false,
-    }
+    !matches!(rt.arg(i, &mut nothing), Err(FillError::NotPresent))
 }
 
 // How many arguments there are, the program's name among them.
 pub fn arg_count<R: Env>(rt: &R) -> usize {
-    for i in 0..usize::MAX {
-        if !is_there(rt, i) {
-            return i;
-        }
-    }
-    usize::MAX
+    (0..usize::MAX)
+        .find(|i| !is_there(rt, *i))
+        .unwrap_or(usize::MAX)
 }
 
 // Whether an argument is `--help`.
@@ -37,12 +30,7 @@ fn is_help<R: Env>(rt: &R, i: usize) -> bool {
 
 // Whether one of so many arguments, the program's name among them, is `--help`.
 pub fn asks_for_help<R: Env>(rt: &R, count: usize) -> bool {
-    for i in 1..count {
-        if is_help(rt, i) {
-            return true;
-        }
-    }
-    false
+    (1..count).any(|i| is_help(rt, i))
 }
 
 // Reads into a buffer, and returns what the last read answered: a read that a signal interrupts is tried again. A proved loop has
@@ -52,14 +40,8 @@ pub fn read_some<R: Read>(from: &mut R, buffer: &mut [u8]) -> io::Result<usize>
 {
     for _ in 0..u64::MAX {
         match from.read(buffer) {
-            Ok(n) => {
-                return Ok(n);
-            }
-            Err(error) => {
-                if error.kind() != ErrorKind::Interrupted {
-                    return Err(error);
-                }
-            }
+            Err(error) if error.kind() == ErrorKind::Interrupted => {}
+            read => return read,
         }
     }
     Err(io::Error::from(ErrorKind::Interrupted))
@@ -70,12 +52,9 @@ fn text_length(text: &[u8]) -> usize
     ensures { result ≤ length text.now }
 {
     let bracket = b" (os error ".as_slice();
-    for i in 0..text.len() {
-        if text[i..].starts_with(bracket) {
-            return i;
-        }
-    }
-    text.len()
+    text.windows(bracket.len())
+        .position(|part| part == bracket)
+        .unwrap_or(text.len())
 }
 
 // Says what failed, as the caller names it, and the error's text, in a line on standard error.

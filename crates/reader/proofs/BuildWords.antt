@@ -1,5 +1,6 @@
 -- Document 01, "The reader's end": what the building of a request answers and leaves, in its own figures.
-use Rattle.std.specs.Prelude.{ℕ, ◌≤◌, ◌<◌, ◌≡◌, refl, List, [], ◌∷◌, ◌++◌, length, replicate, leb}
+use Rattle.std.specs.Prelude.{ℕ, ◌≤◌, ◌<◌, ◌≡◌, refl, List, [], ◌∷◌, ◌++◌, length, replicate, leb, Err, Ok}
+use Rattle.frame.specs.declared.refusal.Refusal.TheVariants.{NotAllowed, ShortMemory}
 use Rattle.std.proofs.Common.{arith, leb-true, le-leb}
 use Rattle.laws.specs.Memory.{outcome, over}
 use Rattle.laws.specs.TestLaws.{not_true}
@@ -10,7 +11,6 @@ use Rattle.reader_judgement.specs.declared.Action.TheVariants.{ReadData, ReadAdd
 use Rattle.reader.specs.Allowed.{RequestSized, request_value, is_allowed}
 use Rattle.reader.proofs.AllowedWords.{AllowedInWords, allowed-words}
 use Rattle.reader.specs.Building.{sent_data, frame_of_action, request_frame, request_bytes, built}
-use Rattle.reader.specs.declared.Built.TheVariants.{Length, Refused}
 use Rattle.reader.specs.declared.Request.{Request}
 
 -- The frame of each request: 11 with the identifier; 13 to six AA; 14 with identifier, level, password, operator code and value.
@@ -27,10 +27,10 @@ sent_bytes request = 0xFE ∷ 0xFE ∷ 0xFE ∷ 0xFE ∷ sent_frame request.acti
 
 -- 1 under 66 bytes of memory, then 5 for a request that is not allowed; else these bytes.
 pub record BuildIsRight (request : Request) (m : List ℕ) : Type 0 where
-  pub short-memory : length m < 66 → built request m ≡ outcome (Refused 1) m
-  pub not-allowed : 66 ≤ length m → (AllowedInWords request.action request → ⊥) → built request m ≡ outcome (Refused 5) m
+  pub short-memory : length m < 66 → built request m ≡ outcome (Err ShortMemory) m
+  pub not-allowed : 66 ≤ length m → (AllowedInWords request.action request → ⊥) → built request m ≡ outcome (Err NotAllowed) m
   pub allowed : 66 ≤ length m → AllowedInWords request.action request
-      → built request m ≡ outcome (Length (length (sent_bytes request))) (over (sent_bytes request) m)
+      → built request m ≡ outcome (Ok (length (sent_bytes request))) (over (sent_bytes request) m)
 
 -- The frame of a request is this one.
 pub frame_figures : (request : Request) → request_frame request ≡ sent_frame request.action request

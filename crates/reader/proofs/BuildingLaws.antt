@@ -1,5 +1,6 @@
 -- Laws of a request's bytes: how many its data are, how they come to stand at their place, and the frame behind four FE.
-use Rattle.std.specs.Prelude.{ℕ, ◌+◌, ◌-◌, ◌≤◌, ◌≡◌, refl, true, length, take, drop}
+use Rattle.std.specs.Prelude.{ℕ, ◌+◌, ◌-◌, ◌≤◌, ◌≡◌, refl, true, length, take, drop, Ok, Result}
+use Rattle.frame_parts.specs.declared.WriteError.{WriteError}
 use Rattle.std.proofs.Common.{ap, ◌∙◌, arith, length-append, length-drop, drop_of_length-le, take_all, drop-drop, length-take-le, le-leb}
 use mathlib.Core.List.{List, [], ◌∷◌, ◌++◌, append-nil, append_assoc}
 use Rattle.laws.specs.Memory.{Outcome, outcome, over}
@@ -7,8 +8,6 @@ use Rattle.laws.specs.Puts.{Puts}
 use Rattle.frame.specs.Frame.{frame_for}
 use Rattle.frame_parts.specs.Writing.{writing_in_place}
 use Rattle.frame_parts.specs.WritingLaws.{written_in_place, placed-front}
-use Rattle.frame_parts.specs.declared.Written.{Written}
-use Rattle.frame_parts.specs.declared.Written.TheVariants as written
 use Rattle.item_identifier.proofs.IdentifierLaws.{identifier-four}
 use Rattle.item_identifier.specs.Identifier.{identifier_bytes}
 use Rattle.item_command.specs.Command.{control_for}
@@ -19,7 +18,6 @@ use Rattle.reader.specs.Allowed.{RequestSized, request_value, is_allowed}
 use Rattle.reader.proofs.AllowedWords.{written-few, admitted_write}
 use Rattle.reader.specs.Building.{wake_up, sent_to, sent_data, Counts, request_frame, request_bytes, built}
 use Rattle.reader.specs.declared.Request.{Request}
-use Rattle.reader.specs.declared.Built.TheVariants.{Length}
 
 -- The data of a write, part by part.
 pub write_parts : (request : Request)
@@ -80,10 +78,10 @@ module _ (bytes m : List ℕ) (few : length bytes ≤ 50) (room : 66 ≤ length 
       let same : y ≡ over bytes (take (length behind - 10) (drop 10 behind)) = q ∙ rw (count, p) in
       rw (count, p) (ap (λ (l : List ℕ). wake_up ++ l) (placed-front bytes behind (omega (arith, behind-length)) y same))
 
-  module _ (address : List ℕ) (control : ℕ) (six : length address ≡ 6) (o : List ℕ) (p : o ≡ wake_up ++ over (take 10 behind ++ bytes) behind) (n : ℕ) (e : n ≡ length bytes) (r : Written) (y : List ℕ)
+  module _ (address : List ℕ) (control : ℕ) (six : length address ≡ 6) (o : List ℕ) (p : o ≡ wake_up ++ over (take 10 behind ++ bytes) behind) (n : ℕ) (e : n ≡ length bytes) (r : Result ℕ WriteError) (y : List ℕ)
       (w : outcome r y ≡ writing_in_place address control n (take (length o - 4) (drop 4 o))) where
     -- It is not refused.
-    frame_in_place : outcome r y ≡ outcome (written.Length (12 + length bytes)) (over (frame_for address control bytes) behind)
+    frame_in_place : outcome r y ≡ outcome (Ok (12 + length bytes)) (over (frame_for address control bytes) behind)
     frame_in_place =
         let s = over (take 10 behind ++ bytes) behind in
         let long : length o ≡ 4 + length s = ap length p ∙ omega arith in
@@ -91,13 +89,13 @@ module _ (bytes m : List ℕ) (few : length bytes ≤ 50) (room : 66 ≤ length 
         w ∙ rw (whole, e) (written_in_place address control bytes behind six (omega arith) (omega (arith, behind-length)))
 
     -- Its length is answered, and it stands behind the four FE.
-    pub in_place_length : r ≡ written.Length (12 + length bytes)
-    in_place_length = ap (λ (o : Outcome Written). o.answer) frame_in_place
+    pub in_place_length : r ≡ Ok (12 + length bytes)
+    in_place_length = ap (λ (o : Outcome (Result ℕ WriteError)). o.answer) frame_in_place
 
     pub in_place_over : take 4 o ++ (y ++ drop (length o - 4) (drop 4 o)) ≡ over (wake_up ++ frame_for address control bytes) m
     in_place_over =
         let frame = frame_for address control bytes in
-        let left : y ≡ over frame behind = ap (λ (o : Outcome Written). o.memory) frame_in_place in
+        let left : y ≡ over frame behind = ap (λ (o : Outcome (Result ℕ WriteError)). o.memory) frame_in_place in
         let none : drop (length o - 4) (drop 4 o) ≡ [] = drop_of_length-le (drop 4 o) {i = length o - 4} (omega (arith, length-drop 4 o)) in
         let first : take 4 o ≡ wake_up = ap (λ (l : List ℕ). take 4 l) p in
         let same : 4 + length frame ≡ length (wake_up ++ frame) = omega arith in
@@ -115,9 +113,9 @@ module _ (request : Request) (m : List ℕ) (room : 66 ≤ length m) (allowed : 
 
   -- What the writing leaves is what is built.
   pub built-written : {n : ℕ} {last : List ℕ} → Puts (wake_up ++ frame_for address control (sent_data request.action request)) n m last
-      → outcome (Length n) last ≡ built request m
+      → outcome (Ok n) last ≡ built request m
   unfolding built
   built-written e =
       rw (le-leb 66 (length m) room, allowed)
       (rw (e.count, e.memory)
-      (ap (λ (l : List ℕ). outcome (Length (length l)) (over l m)) request-made))
+      (ap (λ (l : List ℕ). outcome (Ok (length l)) (over l m)) request-made))

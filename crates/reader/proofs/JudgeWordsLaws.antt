@@ -1,5 +1,9 @@
 -- The judge of a reply says what document 01 says in words; and a reading that it passes is one.
-use Rattle.std.specs.Prelude.{ℕ, ◌≤◌, ◌≡◌, List, [], ◌∷◌, ◌++◌, ◌↔◌, length, take, drop}
+use Rattle.frame.specs.declared.refusal.Refusal.TheVariants.{ShortMemory, NotAllowed, NotOneFrame, NotAnAnswer}
+use Rattle.std.specs.Prelude.{ℕ, ◌≤◌, ◌≡◌, List, [], ◌∷◌, ◌++◌, ◌↔◌, length, take, drop, Err, Ok, Result, Some}
+use Rattle.frame.specs.declared.refusal.Refusal.{Refusal}
+use Rattle.reader_judgement.specs.declared.Reply.{Reply}
+use Rattle.reader_judgement.specs.declared.Reply.TheVariants.{Error, Value}
 use Rattle.std.proofs.Math.Path.{refl}
 use Rattle.std.proofs.Common.{sym, ap, subst, ◌∙◌, arith, take_at}
 use borrow.Author.Tests.{leb-true, le-leb}
@@ -16,14 +20,11 @@ use Rattle.item.specs.declared.table.Kind.TheVariants.{Energy}
 use Rattle.item.proofs.TableWords as table
 use Rattle.item.proofs.TableWords.{one, table-words}
 use Rattle.item.specs.declared.table.Item.{Item}
-use Rattle.item.specs.declared.table.Lookup.TheVariants.{Listed}
 use Rattle.reader_judgement.specs.Judging.{reply_value, data_judgement}
 use Rattle.reader_judgement.specs.JudgingWords.{NormalControl, MayComeFrom, IsAnAnswer, normal, error, ItemLength, normal_words, data_words, value_of_reply}
 use Rattle.reader_judgement.proofs.JudgingWordsLaws.{answers-words, value-words, refused-one, refused_no_value, refused_no_error, data_refused, data_value, data_error}
 use Rattle.reader_judgement.specs.declared.Action.{Action}
 use Rattle.reader_judgement.specs.declared.Action.TheVariants.{ReadData, ReadAddress, WriteData}
-use Rattle.reader_judgement.specs.declared.Judgement.{Judgement}
-use Rattle.reader_judgement.specs.declared.Judgement.TheVariants.{Value, Error, Refused}
 use Rattle.reader.specs.Allowed.{RequestSized}
 use Rattle.reader.proofs.AllowedWords.{AllowedInWords}
 use Rattle.reader.specs.Judging.{is_answer, call_checks, frame_checks, judgement_of, written, judged}
@@ -32,12 +33,12 @@ use Rattle.reader.proofs.JudgeWords.{judge_words, GoodRead, GoodValue, GoodError
 use Rattle.reader.specs.declared.Request.{Request}
 
 -- The checks before those of the data, in words.
-abbrev reply_words : Request → List ℕ → List ℕ → Words ℕ
+abbrev reply_words : Request → List ℕ → List ℕ → Words Refusal
 reply_words request bytes m =
-    says (196 ≤ length m) 1
-    (λ _. says (AllowedInWords request.action request) 5
-    (λ _. says (Frame bytes) 2
-    (λ _. says (IsAnAnswer request.action request.address (control_of bytes) (address_of bytes)) 6
+    says (196 ≤ length m) ShortMemory
+    (λ _. says (AllowedInWords request.action request) NotAllowed
+    (λ _. says (Frame bytes) NotOneFrame
+    (λ _. says (IsAnAnswer request.action request.address (control_of bytes) (address_of bytes)) NotAnAnswer
     (λ _. done))))
 
 -- An answer comes from where document 01 says.
@@ -132,35 +133,35 @@ module _ (request : Request) (bytes m : List ℕ) (sized : RequestSized request)
   )
 
   -- The judgement of the data.
-  abbrev of_data : Judgement
+  abbrev of_data : Result Reply Refusal
   of_data = data_judgement request.action request.identifier (control_of bytes) (address_of bytes) (data_of bytes)
 
-  refused-said : (n : ℕ) → ((judged request bytes m).answer ≡ Refused n) ↔ FirstFails (judge_words request bytes m) n
+  refused-said : (n : Refusal) → ((judged request bytes m).answer ≡ Err n) ↔ FirstFails (judge_words request bytes m) n
   unfolding judged judgement_of
   refused-said =
-      failed-then-iff Refused of_data _ _ say_reply refused-one (λ all. data_words request.identifier (data_of bytes) all.1.1.1.0)
+      failed-then-iff Err of_data _ _ say_reply refused-one (λ all. data_words request.identifier (data_of bytes) all.1.1.1.0)
       (λ all. data_refused request.action request.identifier (control_of bytes) (address_of bytes) (data_of bytes) all.1.1.1.0)
 
   -- An answer that is no refusal is that of the data, where every check before them holds.
-  passed-said : (answer : Judgement) → ((n : ℕ) → Refused n ≡ answer → ⊥)
+  passed-said : (answer : Result Reply Refusal) → ((n : Refusal) → Err n ≡ answer → ⊥)
       → ((judged request bytes m).answer ≡ answer) ↔ (Every (reply_words request bytes m) × (of_data ≡ answer))
   unfolding judged judgement_of
-  passed-said answer apart = answered-iff Refused of_data _ _ say_reply answer apart
+  passed-said answer apart = answered-iff Err of_data _ _ say_reply answer apart
 
-  error-said : (byte : ℕ) → ((judged request bytes m).answer ≡ Error byte) ↔ GoodError request bytes m byte
+  error-said : (byte : ℕ) → ((judged request bytes m).answer ≡ Ok (Error byte)) ↔ GoodError request bytes m byte
   error-said byte = (to_words, to_answer)
     where
-      iff : ((judged request bytes m).answer ≡ Error byte) ↔ (Every (reply_words request bytes m) × (of_data ≡ Error byte))
-      iff = passed-said (Error byte) (λ n. refused_no_error n byte)
+      iff : ((judged request bytes m).answer ≡ Ok (Error byte)) ↔ (Every (reply_words request bytes m) × (of_data ≡ Ok (Error byte)))
+      iff = passed-said (Ok (Error byte)) (λ n. refused_no_error n byte)
 
-      to_words : (judged request bytes m).answer ≡ Error byte → GoodError request bytes m byte
+      to_words : (judged request bytes m).answer ≡ Ok (Error byte) → GoodError request bytes m byte
       to_words e =
           let w = iff.0 e in
           let answer = w.0.1.1.1.0 in
           let said = (data_error request.action request.identifier (control_of bytes) (address_of bytes) (data_of bytes) answer byte).0 w.1 in
           record { room = w.0.0; allowed = w.0.1.0; one-frame = w.0.1.1.0; control = said.0; from = comes-from answer; one_byte = said.1 }
 
-      to_answer : GoodError request bytes m byte → (judged request bytes m).answer ≡ Error byte
+      to_answer : GoodError request bytes m byte → (judged request bytes m).answer ≡ Ok (Error byte)
       to_answer g =
           let answer = error g.control g.from in
           iff.1 (
@@ -168,20 +169,20 @@ module _ (request : Request) (bytes m : List ℕ) (sized : RequestSized request)
             (data_error request.action request.identifier (control_of bytes) (address_of bytes) (data_of bytes) answer byte).1 (g.control, g.one_byte),
           )
 
-  value-said : (n : ℕ) → ((judged request bytes m).answer ≡ Value n) ↔ GoodValue request.action request bytes m n
+  value-said : (n : ℕ) → ((judged request bytes m).answer ≡ Ok (Value n)) ↔ GoodValue request.action request bytes m n
   value-said n = (to_words, to_answer)
     where
-      iff : ((judged request bytes m).answer ≡ Value n) ↔ (Every (reply_words request bytes m) × (of_data ≡ Value n))
-      iff = passed-said (Value n) (λ k. refused_no_value k n)
+      iff : ((judged request bytes m).answer ≡ Ok (Value n)) ↔ (Every (reply_words request bytes m) × (of_data ≡ Ok (Value n)))
+      iff = passed-said (Ok (Value n)) (λ k. refused_no_value k n)
 
-      to_words : (judged request bytes m).answer ≡ Value n → GoodValue request.action request bytes m n
+      to_words : (judged request bytes m).answer ≡ Ok (Value n) → GoodValue request.action request bytes m n
       to_words e =
           let w = iff.0 e in
           let answer = w.0.1.1.1.0 in
           let said = (data_value request.action request.identifier (control_of bytes) (address_of bytes) (data_of bytes) answer n).0 w.1 in
           passes-good request.action request bytes m n (w.0.0, w.0.1.0, w.0.1.1.0, said.0, comes-from answer, said.1, said.2)
 
-      to_answer : GoodValue request.action request bytes m n → (judged request bytes m).answer ≡ Value n
+      to_answer : GoodValue request.action request bytes m n → (judged request bytes m).answer ≡ Ok (Value n)
       to_answer g =
           let (room, allowed, frame, control, from, data-said, count) = good-passes request.action request bytes m n g in
           let answer = normal control from in
@@ -191,19 +192,19 @@ module _ (request : Request) (bytes m : List ℕ) (sized : RequestSized request)
           )
 
   -- Only a value is written.
-  value_in_front : (n : ℕ) → (judged request bytes m).answer ≡ Value n
+  value_in_front : (n : ℕ) → (judged request bytes m).answer ≡ Ok (Value n)
       → (judged request bytes m).memory ≡ over (value_of_reply request.action (data_of bytes)) m
   unfolding judged
   value_in_front n e = rw (e, value-words request.action (data_of bytes))
 
-  no_value_kept : ((n : ℕ) → (judged request bytes m).answer ≡ Value n → ⊥) → (judged request bytes m).memory ≡ m
+  no_value_kept : ((n : ℕ) → (judged request bytes m).answer ≡ Ok (Value n) → ⊥) → (judged request bytes m).memory ≡ m
   unfolding judged
   no_value_kept = go (judgement_of request bytes m)
     where
-      go : (j : Judgement) → ((n : ℕ) → j ≡ Value n → ⊥) → written j (reply_value request.action (data_of bytes)) m ≡ m
-      go (Value n) h = absurd (h n refl)
-      go (Error byte) h = refl
-      go (Refused n) h = refl
+      go : (j : Result Reply Refusal) → ((n : ℕ) → j ≡ Ok (Value n) → ⊥) → written j (reply_value request.action (data_of bytes)) m ≡ m
+      go (Ok (Value n)) h = absurd (h n refl)
+      go (Ok (Error byte)) h = refl
+      go (Err n) h = refl
 
   -- The judge answers and leaves what document 01 says.
   pub judge-words : Judges request bytes m
@@ -216,7 +217,7 @@ module _ (request : Request) (bytes m : List ℕ) (sized : RequestSized request)
   }
 
 -- The table has one reading of four bytes for such an identifier.
-reading-length : (identifier : ℕ) (item : Item) → OneReading identifier → item_of identifier ≡ Listed item → item.length ≡ 4
+reading-length : (identifier : ℕ) (item : Item) → OneReading identifier → item_of identifier ≡ Some item → item.length ≡ 4
 reading-length identifier item (forward t s h k e) listed =
     cc ((table-words identifier (read_only (Energy 0 t 1 s 1) 4)).1 (table.forward (one t s h k e refl)))
 reading-length identifier item (reverse t s h k e) listed =
@@ -224,7 +225,7 @@ reading-length identifier item (reverse t s h k e) listed =
 
 -- Where the judge passes a reply to a read of one reading, its value has four bytes, and their number is one that a reading can have.
 pub good-reading : (request : Request) (bytes m : List ℕ) → RequestSized request → request.action ≡ ReadData → OneReading request.identifier
-    → (n : ℕ) → (judged request bytes m).answer ≡ Value n → (n ≡ 4) × (unpacked (take 4 (judged request bytes m).memory) ≤ 99999999)
+    → (n : ℕ) → (judged request bytes m).answer ≡ Ok (Value n) → (n ≡ 4) × (unpacked (take 4 (judged request bytes m).memory) ≤ 99999999)
 good-reading request bytes m sized read single n e =
     let good : GoodRead request bytes m n = subst (λ (a : Action). GoodValue a request bytes m n) read (((judge-words request bytes m sized).value n).0 e) in
     let four : length (drop 4 (data_of bytes)) ≡ 4 = good.as_long ∙ reading-length request.identifier good.item single good.listed in

@@ -1,5 +1,9 @@
 -- What the papers say of the answers of the reader's end, when each is a refusal, and that the memory is then as it was.
-use Rattle.std.specs.Prelude.{ℕ, ◌≤◌, ◌<◌, ◌≡◌, refl, List, [], ◌∷◌, ◌↔◌, ◌⊎◌, length, leb}
+use Rattle.std.specs.Prelude.{ℕ, ◌≤◌, ◌<◌, ◌≡◌, refl, List, [], ◌∷◌, ◌↔◌, ◌⊎◌, length, leb, Err, Ok, Result}
+use Rattle.frame.specs.Refusals.{number_of}
+use Rattle.frame.specs.declared.refusal.Refusal.{Refusal}
+use Rattle.reader_judgement.specs.declared.Reply.{Reply}
+use Rattle.reader_judgement.specs.declared.Reply.TheVariants.{Error, Value}
 use Rattle.std.proofs.Common.{sym, ◌∙◌, inl, inr, arith, leb-true, leb-false}
 use Rattle.std.proofs.lemmas.Bool.{false≢true}
 use Rattle.laws.specs.Memory.{Outcome}
@@ -7,22 +11,18 @@ use Rattle.laws.specs.Said.{Said, values, refusal, IsRefusal, Refuses, refuses, 
 use Rattle.laws.specs.TestLaws.{pick_cases}
 use Rattle.laws.specs.Words.{FirstFails}
 use Rattle.reader_judgement.specs.Said.{judgement_said}
-use Rattle.reader_judgement.specs.declared.Judgement.{Judgement}
-use Rattle.reader_judgement.specs.declared.Judgement.TheVariants as judging
 use Rattle.reader.specs.Allowed.{RequestSized, is_allowed}
 use Rattle.reader.proofs.AllowedWords.{AllowedInWords, allowed-words}
 use Rattle.reader.specs.Building.{built}
 use Rattle.reader.specs.Judging.{judged}
 use Rattle.reader.proofs.JudgeWords.{judge_words, Judges}
 use Rattle.reader.proofs.JudgeWordsLaws.{judge-words}
-use Rattle.reader.specs.declared.Built.{Built}
-use Rattle.reader.specs.declared.Built.TheVariants.{Length, Refused}
 use Rattle.reader.specs.declared.Request.{Request}
 
 -- How many bytes the request has, or a refusal.
-abbrev pub built_said : Built → Said
-built_said (Length n) = values (n ∷ [])
-built_said (Refused n) = refusal n
+abbrev pub built_said : Result ℕ Refusal → Said
+built_said (Ok n) = values (n ∷ [])
+built_said (Err n) = refusal (number_of n)
 
 -- Memory under 66 bytes, or a request that is not allowed.
 abbrev pub CannotBuild : Request → List ℕ → Type 0
@@ -37,7 +37,7 @@ build-refuses request m sized =
     (λ not. refuses (inr (λ words. false≢true (sym not ∙ (allowed-words request sized).1 words))) tt))
     (λ short. refuses (inl (leb-false 66 (length m) short)) tt)
   where
-    P : Outcome Built → Type 0
+    P : Outcome (Result ℕ Refusal) → Type 0
     P o = Refuses (built_said o.answer) (CannotBuild request m) m o.memory
 
     can : 66 ≤ length m → AllowedInWords request.action request → CannotBuild request m → ⊥
@@ -47,29 +47,29 @@ build-refuses request m sized =
 -- The judge refuses exactly where one of its checks, in words, is the first that fails.
 pub judge-refuses : (request : Request) (bytes m : List ℕ) → RequestSized request
     → let o = judged request bytes m in
-    Refuses (judgement_said o.answer) ((n : ℕ) × FirstFails (judge_words request bytes m) n) m o.memory
+    Refuses (judgement_said o.answer) ((n : Refusal) × FirstFails (judge_words request bytes m) n) m o.memory
 judge-refuses request bytes m sized = go (judged request bytes m).answer refl
   where
     words : Judges request bytes m
     words = judge-words request bytes m sized
 
-    kept : (judgement : Judgement) → (judged request bytes m).answer ≡ judgement → IsRefusal (judgement_said judgement) → (judged request bytes m).memory ≡ m
-    kept (judging.Value n) e r = absurd r
-    kept (judging.Error byte) e r = absurd r
-    kept (judging.Refused n) e r = words.else_as_before (λ k f. let z : ◌≡◌ {A = ℕ} 0 1 = cc in omega arith)
+    kept : (judgement : Result Reply Refusal) → (judged request bytes m).answer ≡ judgement → IsRefusal (judgement_said judgement) → (judged request bytes m).memory ≡ m
+    kept (Ok (Value n)) e r = absurd r
+    kept (Ok (Error byte)) e r = absurd r
+    kept (Err n) e r = words.else_as_before (λ k f. let z : ◌≡◌ {A = ℕ} 0 1 = cc in omega arith)
 
-    go : (judgement : Judgement) → (judged request bytes m).answer ≡ judgement
-        → let o = judged request bytes m in Refuses (judgement_said o.answer) ((n : ℕ) × FirstFails (judge_words request bytes m) n) m o.memory
+    go : (judgement : Result Reply Refusal) → (judged request bytes m).answer ≡ judgement
+        → let o = judged request bytes m in Refuses (judgement_said o.answer) ((n : Refusal) × FirstFails (judge_words request bytes m) n) m o.memory
     go judgement e =
         record {
           exactly = rw e (said judgement e);
           as_before = λ r. kept (judged request bytes m).answer refl r;
         }
       where
-        said : (judgement : Judgement) → (judged request bytes m).answer ≡ judgement
-            → IsRefusal (judgement_said judgement) ↔ ((n : ℕ) × FirstFails (judge_words request bytes m) n)
-        said (judging.Value n) e =
+        said : (judgement : Result Reply Refusal) → (judged request bytes m).answer ≡ judgement
+            → IsRefusal (judgement_said judgement) ↔ ((n : Refusal) × FirstFails (judge_words request bytes m) n)
+        said (Ok (Value n)) e =
             (λ r. absurd r, λ f. absurd (let h = (words.refused f.0).1 f.1 in let z : ◌≡◌ {A = ℕ} 0 1 = cc in omega arith))
-        said (judging.Error byte) e =
+        said (Ok (Error byte)) e =
             (λ r. absurd r, λ f. absurd (let h = (words.refused f.0).1 f.1 in let z : ◌≡◌ {A = ℕ} 0 1 = cc in omega arith))
-        said (judging.Refused n) e = (λ r. (n, (words.refused n).0 e), λ f. tt)
+        said (Err n) e = (λ r. (n, (words.refused n).0 e), λ f. tt)

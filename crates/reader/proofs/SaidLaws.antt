@@ -1,11 +1,9 @@
 -- What the building of a request that is not allowed says: what the papers say of why it is not, which is 5 whatever the cause.
-use Rattle.std.specs.Prelude.{ℕ, ◌≤◌, ◌≡◌, refl, List, false, length}
+use Rattle.std.specs.Prelude.{ℕ, ◌≤◌, ◌≡◌, refl, List, false, length, Err, Ok, Result}
 use Rattle.std.proofs.Common.{sym, true≢false, le-leb}
 use Rattle.laws.specs.Said.{refusal}
 use Rattle.reader_allowed.specs.Allowed.{is_admitted}
 use Rattle.reader_allowed.specs.Said.{cause_said, admission_said}
-use Rattle.reader_allowed.specs.declared.Admission.{Admission}
-use Rattle.reader_allowed.specs.declared.Admission.TheVariants.{Allowed, Refused}
 use Rattle.reader_allowed.specs.declared.Cause.{Cause}
 use Rattle.reader_allowed.specs.declared.Cause.TheVariants.{Address, NotListed, NotWritable, Level, Length, NotDecimal, OutOfRange}
 use Rattle.reader.specs.Allowed.{admission, is_allowed}
@@ -29,6 +27,6 @@ pub build-says : (request : Request) (m : List ℕ) → 66 ≤ length m → is_a
 unfolding built is_allowed
 build-says request m room none = rw (le-leb 66 _ room, none) (go (admission request) none)
   where
-    go : (admitted : Admission) → is_admitted admitted ≡ false → refusal 5 ≡ admission_said admitted
-    go Allowed h = absurd (true≢false h)
-    go (Refused cause) h = sym (every_cause cause)
+    go : (admitted : Result Unit Cause) → is_admitted admitted ≡ false → refusal 5 ≡ admission_said admitted
+    go (Ok tt) h = absurd (true≢false h)
+    go (Err cause) h = sym (every_cause cause)

@@ -1,8 +1,8 @@
 -- Document 01, "The reader's end": which requests are allowed. Anything else is refusal 5.
-use Rattle.std.specs.Prelude.{ℕ, ◌≡◌, List, Bool, length, take}
+use Rattle.std.specs.Prelude.{ℕ, ◌≡◌, List, Bool, length, take, Result}
+use Rattle.reader_allowed.specs.declared.Cause.{Cause}
 use Rattle.reader_judgement.specs.declared.Action.{Action}
 use Rattle.reader_allowed.specs.Allowed as parts
-use Rattle.reader_allowed.specs.declared.Admission.{Admission}
 use Rattle.reader.specs.declared.Request.{Request}
 
 -- What the type says of a request's arrays.
@@ -17,10 +17,10 @@ abbrev pub request_value : Request → List ℕ
 request_value request = take request.count request.value
 
 -- What is admitted of a request whose action this is, by its parts.
-abbrev pub admission_of : Action → Request → Admission
+abbrev pub admission_of : Action → Request → Result Unit Cause
 admission_of action request = parts.admission action request.address request.identifier request.level request.value request.count
 
-abbrev pub admission : Request → Admission
+abbrev pub admission : Request → Result Unit Cause
 admission request = admission_of request.action request
 
 unfoldable pub is_allowed : Request → Bool

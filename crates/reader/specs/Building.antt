@@ -1,8 +1,9 @@
 -- Document 01, "The reader's end": the bytes of a request, and what building one answers.
-use Rattle.std.specs.Prelude.{ℕ, ◌≤◌, List, [], ◌∷◌, ◌++◌, length, replicate, leb}
+use Rattle.std.specs.Prelude.{ℕ, ◌≤◌, List, [], ◌∷◌, ◌++◌, length, replicate, leb, Err, Ok, Result}
+use Rattle.frame.specs.declared.refusal.Refusal.{Refusal}
+use Rattle.frame.specs.declared.refusal.Refusal.TheVariants.{NotAllowed, ShortMemory}
 use Rattle.laws.specs.Memory.{Outcome, outcome, over}
 use Rattle.laws.specs.Test.{pick}
-use Rattle.frame.specs.Refusals.{short_memory, not_allowed}
 use Rattle.frame.specs.Frame.{frame_for}
 use Rattle.item_address.specs.Address.{wildcards}
 use Rattle.item_identifier.specs.Identifier.{identifier_bytes}
@@ -13,8 +14,6 @@ use Rattle.reader_judgement.specs.declared.Action.TheVariants.{ReadData, ReadAdd
 use Rattle.reader_allowed.specs.Allowed.{most_value}
 use Rattle.reader.specs.Allowed.{request_value, is_allowed}
 use Rattle.reader.specs.declared.Request.{Request}
-use Rattle.reader.specs.declared.Built.{Built}
-use Rattle.reader.specs.declared.Built.TheVariants.{Length, Refused}
 
 -- The least memory for a request to be built in.
 abbrev pub request_memory : ℕ
@@ -60,10 +59,10 @@ unfoldable pub request_bytes : Request → List ℕ
 request_bytes request = wake_up ++ request_frame request
 
 -- The outcome of building: 1 under 66 bytes of memory, then 5 for a request that is not allowed, else its bytes over the front.
-unfoldable pub built : Request → List ℕ → Outcome Built
+unfoldable pub built : Request → List ℕ → Outcome (Result ℕ Refusal)
 built request m =
     pick (leb request_memory (length m))
     (pick (is_allowed request)
-    (outcome (Length (length (request_bytes request))) (over (request_bytes request) m))
-    (outcome (Refused not_allowed) m))
-    (outcome (Refused short_memory) m)
+    (outcome (Ok (length (request_bytes request))) (over (request_bytes request) m))
+    (outcome (Err NotAllowed) m))
+    (outcome (Err ShortMemory) m)

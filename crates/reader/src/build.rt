@@ -8,7 +8,6 @@ ghost use Rattle.reader.specs.Building.{request_memory, most_data, wake_up, sent
 ghost use Rattle.item_identifier.specs.Identifier.{identifier_bytes};
 
 use crate::Request;
-use frame_parts::Written;
 use item_address::WILDCARD;
 use item_identifier::identifier_bytes;
 use reader_judgement::Action;
@@ -18,9 +17,8 @@ pub(crate) fn sent_to(action: Action, address: [u8; 6]) -> [u8; 6]
     ensures { result ≡ sent_to action address }
 {
     match action {
-        Action::ReadData => address,
+        Action::ReadData | Action::WriteData => address,
         Action::ReadAddress => [WILDCARD; 6],
-        Action::WriteData => address,
     }
 }
 
@@ -30,11 +28,7 @@ fn put_identifier(identifier: u32, out: &mut [u8])
     requires { 4 ≤ length out.old }
     ensures { out.new ≡ over (identifier_bytes identifier) out.old }
 {
-    let di = identifier_bytes(identifier);
-    out[0] = di[0];
-    out[1] = di[1];
-    out[2] = di[2];
-    out[3] = di[3];
+    out[..4].copy_from_slice(&identifier_bytes(identifier));
 }
 
 // Puts a part of the data to the memory, from a place on.
@@ -42,7 +36,7 @@ fn put_part(part: &[u8], place: usize, out: &mut [u8])
     requires { place + length part.now ≤ length out.old }
     ensures { out.new ≡ over (take place out.old ++ part.now) out.old }
 {
-    slice_bytes::copy(part, &mut out[place..]);
+    out[place..place + part.len()].copy_from_slice(part);
 }
 
 // Puts the data of a write: identifier, level, password, operator code, value; answers how many they are.
@@ -50,16 +44,12 @@ fn put_write(request: Request, out: &mut [u8]) -> usize
     requires { (request.count ≤ most_value) × (most_data ≤ length out.old) }
     ensures { Puts (sent_data Action.WriteData request) result out.old out.new }
 {
-    let password = request.password;
-    let operator = request.operator;
-    let value = request.value;
-    let count = request.count;
     put_identifier(request.identifier, out);
     out[4] = request.level;
-    put_part(&password, 5, out);
-    put_part(&operator, 8, out);
-    put_part(&value[..count], 12, out);
-    12 + count
+    put_part(&request.password, 5, out);
+    put_part(&request.operator, 8, out);
+    put_part(&request.value[..request.count], 12, out);
+    12 + request.count
 }
 
 // Puts the data of a request to the front of the memory, and answers how many they are.
@@ -68,8 +58,7 @@ fn put_data(request: Request, out: &mut [u8]) -> usize
     requires { Counts request.action request × (most_data ≤ length out.old) }
     ensures { Puts (sent_data request.action request) result out.old out.new }
 {
-    let action = request.action;
-    match action {
+    match request.action {
         Action::ReadData => {
             put_identifier(request.identifier, out);
             4
@@ -94,12 +83,7 @@ pub(crate) fn write_request(
     out[2] = 0xFE;
     out[3] = 0xFE;
     let count = put_data(request, &mut out[14..]);
-    let Written::Length(n) = frame_parts::write_frame_in_place(
-        address,
-        control,
-        count,
-        &mut out[4..],
-    ) else {
+    let Ok(n) = frame_parts::write_frame_in_place(address, control, count, &mut out[4..]) else {
         return 0;
     };
     4 + n

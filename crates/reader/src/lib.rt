@@ -6,15 +6,16 @@ mod build;
 
 ghost use Rattle.std.specs.Prelude.{◌≡◌, drop};
 ghost use Rattle.laws.specs.Memory.{outcome};
+ghost use Rattle.reader.specs.Allowed.{is_allowed};
 ghost use Rattle.reader.specs.Building.{built};
 ghost use Rattle.reader.specs.Judging.{is_judged, Fits, written, judged};
 
 use build::{sent_to, write_request};
-use frame::refusal::{NOT_ALLOWED, NOT_AN_ANSWER, NOT_ONE_FRAME, SHORT_MEMORY};
+use frame::refusal::Refusal;
 use frame_parts::{address_of, unmask_data};
-use item_command::control_of;
-use reader_allowed::{Admission, MOST_VALUE, admit};
-use reader_judgement::{Action, Judgement, command_for, is_answer, judge_data, value_start};
+use item_command::Command;
+use reader_allowed::{MOST_VALUE, admit};
+use reader_judgement::{Action, Reply, is_answer, judge_data, value_start};
 
 // The least memory for a request to be built in.
 pub const REQUEST_MEMORY: usize = 66;
@@ -37,108 +38,92 @@ pub struct Request {
     pub count: usize,
 }
 
-// The answer to the building of a request.
-#[derive(Clone, Copy)]
-pub enum Built {
-    // The length of the request that stands at the front of the output buffer, wake-up bytes included.
-    Length(usize),
-    // A refusal, by document 01's number: nothing written.
-    Refused(u8),
-}
-
-// Whether a reply to this request is judged: the request is allowed, and answered by one reply.
-#[tactic(auto, unfolding(crate::specs::Judging::is_judged, crate::specs::Allowed::is_allowed))]
-fn is_judged(request: Request) -> bool
-    ensures { result ≡ is_judged request }
-{
-    let action = request.action;
-    let address = request.address;
-    let value = request.value;
-    let Admission::Allowed = admit(
-        action,
-        address,
-        request.identifier,
-        request.level,
-        value,
-        request.count,
-    ) else {
-        return false;
-    };
-    true
-}
-
 // Writes the value of a good reply to the front of the output buffer.
-fn deliver(decided: Judgement, start: usize, payload: &[u8], out: &mut [u8]) -> Judgement
+fn deliver(
+    decided: Result<Reply, Refusal>,
+    start: usize,
+    payload: &[u8],
+    out: &mut [u8],
+) -> Result<Reply, Refusal>
     requires { Fits decided start payload.now out.old }
     ensures { outcome result out.new ≡ outcome decided (written decided (drop start payload.now) out.old) }
 {
     match decided {
-        Judgement::Value(n) => {
+        Ok(Reply::Value(n)) => {
             slice_bytes::copy(&payload[start..], out);
-            Judgement::Value(n)
+            Ok(Reply::Value(n))
         }
-        Judgement::Error(byte) => Judgement::Error(byte),
-        Judgement::Refused(refusal) => Judgement::Refused(refusal),
+        Ok(Reply::Error(byte)) => Ok(Reply::Error(byte)),
+        Err(refusal) => Err(refusal),
     }
 }
 
 impl Request {
-    // Writes the request, with four FE in front, to the front of the output buffer, which stays as it was beyond it. Refused
-    // with 1 under 66 bytes, then with 5.
+    // Whether the request is allowed.
+    #[tactic(auto, unfolding(crate::specs::Allowed::is_allowed))]
+    fn is_allowed(self) -> bool
+        ensures { result ≡ is_allowed self }
+    {
+        let admission = admit(
+            self.action,
+            self.address,
+            self.identifier,
+            self.level,
+            self.value,
+            self.count,
+        );
+        admission.is_ok()
+    }
+
+    // Whether a reply to this request is judged: the request is allowed, and answered by one reply.
+    #[tactic(auto, unfolding(crate::specs::Judging::is_judged))]
+    fn is_judged(self) -> bool
+        ensures { result ≡ is_judged self }
+    {
+        self.is_allowed()
+    }
+
+    // Writes the request, with four FE in front, to the front of the output buffer, which stays as it was beyond it, and
+    // answers its length, wake-up bytes included. Refused with 1 under 66 bytes, then with 5.
     #[tactic(auto, unfolding(crate::specs::Building::built, crate::specs::Allowed::is_allowed))]
-    pub fn build(self, out: &mut [u8]) -> Built
+    pub fn build(self, out: &mut [u8]) -> Result<usize, Refusal>
         ensures { outcome result out.new ≡ built self out.old }
     {
         if out.len() < REQUEST_MEMORY {
-            return Built::Refused(SHORT_MEMORY);
+            return Err(Refusal::ShortMemory);
         }
-        let action = self.action;
-        let address = self.address;
-        let value = self.value;
-        let Admission::Allowed = admit(
-            action,
-            address,
-            self.identifier,
-            self.level,
-            value,
-            self.count,
-        ) else {
-            return Built::Refused(NOT_ALLOWED);
-        };
-        let n = write_request(
-            sent_to(action, address),
-            control_of(command_for(action)),
-            self,
-            out,
-        );
-        Built::Length(n)
+        if !self.is_allowed() {
+            return Err(Refusal::NotAllowed);
+        }
+        let address = sent_to(self.action, self.address);
+        let control = u8::from(Command::from(self.action));
+        Ok(write_request(address, control, self, out))
     }
 
     // Judges a reply to the request: its value goes to the front of the output buffer, which stays as it was beyond it.
     // Refused with 1 under 196 bytes, 5, 2, and then with 6, 7, 6, 7, as document 01 says.
     #[tactic(auto, unfolding(crate::specs::Judging::judged, crate::specs::Judging::judgement_of, crate::specs::Judging::call_checks, crate::specs::Judging::frame_checks, crate::specs::Judging::is_answer, laws::specs::Checks::first_failing))]
-    pub fn judge(self, bytes: &[u8], out: &mut [u8]) -> Judgement
+    pub fn judge(self, bytes: &[u8], out: &mut [u8]) -> Result<Reply, Refusal>
         ensures { outcome result out.new ≡ judged self bytes.now out.old }
     {
         if out.len() < VALUE_MEMORY {
-            return Judgement::Refused(SHORT_MEMORY);
+            return Err(Refusal::ShortMemory);
         }
-        if !is_judged(self) {
-            return Judgement::Refused(NOT_ALLOWED);
+        if !self.is_judged() {
+            return Err(Refusal::NotAllowed);
         }
         if !frame::is_frame(bytes) {
-            return Judgement::Refused(NOT_ONE_FRAME);
+            return Err(Refusal::NotOneFrame);
         }
-        let action = self.action;
-        let address = self.address;
         let control = bytes[8];
         let from = address_of(bytes);
-        if !is_answer(action, address, control, from) {
-            return Judgement::Refused(NOT_AN_ANSWER);
+        if !is_answer(self.action, self.address, control, from) {
+            return Err(Refusal::NotAnAnswer);
         }
         let mut payload = [0u8; 200];
         let length = unmask_data(bytes, &mut payload);
-        let decided = judge_data(action, self.identifier, control, from, &payload[..length]);
-        deliver(decided, value_start(action), &payload[..length], out)
+        let data_field = &payload[..length];
+        let decided = judge_data(self.action, self.identifier, control, from, data_field);
+        deliver(decided, value_start(self.action), data_field, out)
     }
 }

@@ -1,5 +1,5 @@
 -- Document 01's "Allowed" in its own words, by a request's parts, and that its conditions say exactly this.
-use Rattle.std.specs.Prelude.{ℕ, ◌≤◌, ◌≡◌, refl, List, [], Bool, true, false, ◌||◌, ◌↔◌, take}
+use Rattle.std.specs.Prelude.{ℕ, ◌≤◌, ◌≡◌, refl, List, [], Bool, true, false, ◌||◌, ◌↔◌, take, Err, Ok, Some}
 use Rattle.std.proofs.Math.Path.{ap}
 use Rattle.std.proofs.Common.{◌∙◌, arith}
 use Rattle.std.proofs.lemmas.Bool.{false≢true}
@@ -16,12 +16,10 @@ use Rattle.item.proofs.ContentLaws.{Range, content-allowed}
 use Rattle.item.specs.Table.{item_of, other_rows}
 use Rattle.item.proofs.TableLaws.{InRows, listed_rule}
 use Rattle.item.specs.declared.table.Item.{Item}
-use Rattle.item.specs.declared.table.Lookup.TheVariants.{Listed}
 use Rattle.reader_judgement.specs.declared.Action.{Action}
 use Rattle.reader_judgement.specs.declared.Action.TheVariants.{ReadData, ReadAddress, WriteData}
 use Rattle.reader_allowed.specs.Allowed.{address_allowed, content_checks, value_conditions, conditions_of, admission, is_admitted}
 use Rattle.reader_allowed.proofs.AllowedLaws.{content-holds, all_hold, listed_hold}
-use Rattle.reader_allowed.specs.declared.Admission.TheVariants.{Allowed, Refused}
 
 -- An address that a read may go to: a good one, or a short one.
 pub data Readable (address : List ℕ) : Type 0 where
@@ -32,14 +30,14 @@ pub data Readable (address : List ℕ) : Type 0 where
 pub record AllowedRead (to : List ℕ) (identifier : ℕ) : Type 0 where
   pub address : Readable to
   pub item : Item
-  pub listed : item_of identifier ≡ Listed item
+  pub listed : item_of identifier ≡ Some item
 
 -- A write of a writable identifier to a good address: level 00 to 09, length and content as the meter checks them. The value is the first
 -- `count` of the bytes; password and operator code are any bytes.
 pub record AllowedWrite (to : List ℕ) (identifier at_level : ℕ) (bytes : List ℕ) (count : ℕ) : Type 0 where
   pub address : Good to
   pub item : Item
-  pub listed : item_of identifier ≡ Listed item
+  pub listed : item_of identifier ≡ Some item
   pub writable : item.writable ≡ true
   pub level : at_level ≤ 9
   pub data_length : count ≡ item.length
@@ -67,7 +65,7 @@ is_readable address six (full g) = rw (is_good_lem address g)
 is_readable address six (short s) = rw (is_short_lem address six s) (or-true (is_good address))
 
 -- A writable item has at most 38 bytes.
-writable-few : (identifier : ℕ) (item : Item) → item_of identifier ≡ Listed item → item.writable ≡ true → item.length ≤ 38
+writable-few : (identifier : ℕ) (item : Item) → item_of identifier ≡ Some item → item.writable ≡ true → item.length ≤ 38
 unfolding other_rows
 writable-few =
     listed_rule {P = λ identifier item. item.writable ≡ true → item.length ≤ 38}
@@ -87,7 +85,7 @@ module _ (address : List ℕ) (identifier level : ℕ) (value : List ℕ) (count
   unfolding admission
   allowed_hold action = (
     all_hold (conditions_of action address identifier level value count),
-    λ h. ap is_admitted (all_pass Refused Allowed (conditions_of action address identifier level value count) h),
+    λ h. ap is_admitted (all_pass Err (Ok tt) (conditions_of action address identifier level value count) h),
   )
 
   -- An allowed write, whatever lengths its parts have.

@@ -1,41 +1,37 @@
 -- Document 01, "The reader's end": which requests are allowed, by their parts. Anything else is refusal 5.
-use Rattle.std.specs.Prelude.{ℕ, List, [], ◌∷◌, Bool, true, false, ◌||◌, take, leb, eqb}
+use Rattle.std.specs.Prelude.{ℕ, List, [], ◌∷◌, Bool, true, false, ◌||◌, take, leb, eqb, Err, None, Ok, Option, Result, Some}
+use Rattle.item.specs.declared.content.ContentError.{ContentError}
+use Rattle.item.specs.declared.content.ContentError.TheVariants.{NotDecimal, NotWritable, OutOfRange, WrongLength}
 use Rattle.laws.specs.Checks.{Check, check, first_failing}
 use Rattle.item_address.specs.Address.{is_good, is_short}
 use Rattle.item.specs.Content.{content_of}
 use Rattle.item.specs.Table.{item_of}
-use Rattle.item.specs.declared.content.Content.{Content}
-use Rattle.item.specs.declared.content.Content.TheVariants as content
 use Rattle.item.specs.declared.table.Item.{Item}
-use Rattle.item.specs.declared.table.Lookup.{Lookup}
-use Rattle.item.specs.declared.table.Lookup.TheVariants.{Listed, NotListed}
 use Rattle.reader_judgement.specs.declared.Action.{Action}
 use Rattle.reader_judgement.specs.declared.Action.TheVariants.{ReadData, ReadAddress, WriteData}
 use Rattle.reader_allowed.specs.declared.Cause.{Cause}
 use Rattle.reader_allowed.specs.declared.Cause.TheVariants as cause
-use Rattle.reader_allowed.specs.declared.Admission.{Admission}
-use Rattle.reader_allowed.specs.declared.Admission.TheVariants.{Allowed, Refused}
 
 -- The most bytes of a value that is written.
 abbrev pub most_value : ℕ
 most_value = 38
 
 -- What is asked of a listed item; nothing else is listed.
-abbrev pub of_item : Lookup → (Item → List (Check Cause)) → List (Check Cause)
-of_item (Listed item) conditions = conditions item
-of_item NotListed conditions = check false cause.NotListed ∷ []
+abbrev pub of_item : Option Item → (Item → List (Check Cause)) → List (Check Cause)
+of_item (Some item) conditions = conditions item
+of_item None conditions = check false cause.NotListed ∷ []
 
 -- A read may go to a good address, or to a short one with 1 to 5 decimal low bytes and AA above.
 unfoldable pub address_allowed : List ℕ → Bool
 address_allowed address = is_good address || is_short address
 
 -- What is asked of a value's content: that it is allowed.
-unfoldable pub content_checks : Content → List (Check Cause)
-content_checks content.Allowed = []
-content_checks content.NotWritable = check false cause.NotWritable ∷ []
-content_checks content.WrongLength = check false cause.Length ∷ []
-content_checks (content.NotDecimal i) = check false cause.NotDecimal ∷ []
-content_checks content.OutOfRange = check false cause.OutOfRange ∷ []
+unfoldable pub content_checks : Result Unit ContentError → List (Check Cause)
+content_checks (Ok tt) = []
+content_checks (Err NotWritable) = check false cause.NotWritable ∷ []
+content_checks (Err WrongLength) = check false cause.Length ∷ []
+content_checks (Err (NotDecimal i)) = check false cause.NotDecimal ∷ []
+content_checks (Err OutOfRange) = check false cause.OutOfRange ∷ []
 
 -- A write of a listed item: only of a writable one, level 00..09, length and content as the meter checks them. The value to be written is
 -- the first of the bytes, as many as are counted.
@@ -58,10 +54,10 @@ conditions_of WriteData address identifier level value count =
     ∷ of_item (item_of identifier) (value_conditions level value count)
 
 -- The first condition that does not hold refuses.
-unfoldable pub admission : Action → List ℕ → ℕ → ℕ → List ℕ → ℕ → Admission
+unfoldable pub admission : Action → List ℕ → ℕ → ℕ → List ℕ → ℕ → Result Unit Cause
 admission action address identifier level value count =
-    first_failing Refused (conditions_of action address identifier level value count) Allowed
+    first_failing Err (conditions_of action address identifier level value count) (Ok tt)
 
-abbrev pub is_admitted : Admission → Bool
-is_admitted Allowed = true
-is_admitted (Refused cause) = false
+abbrev pub is_admitted : Result Unit Cause → Bool
+is_admitted (Ok tt) = true
+is_admitted (Err cause) = false

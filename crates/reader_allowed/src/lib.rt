@@ -1,12 +1,12 @@
 // Which requests are allowed: document 01, "The reader's end".
 #![tactic(auto)]
 
-ghost use Rattle.std.specs.Prelude.{◌≡◌, []};
+ghost use Rattle.std.specs.Prelude.{◌≡◌, [], Ok, Err};
 ghost use Rattle.laws.specs.Checks.{first_failing};
 ghost use Rattle.reader_allowed.specs.Allowed.{address_allowed, conditions_of, value_conditions, admission};
 
-use item::content::{Content, content_of};
-use item::table::{Item, Lookup, item_of};
+use item::content::{ContentError, content_of};
+use item::table::{Item, item_of};
 use item_address::{is_good, is_short};
 use reader_judgement::Action;
 
@@ -25,13 +25,6 @@ pub enum Cause {
     OutOfRange,
 }
 
-// Whether a request is allowed, and if not, why.
-#[derive(Clone, Copy)]
-pub enum Admission {
-    Allowed,
-    Refused(Cause),
-}
-
 // Whether a read may go to this address: a good one, or a short one.
 #[tactic(auto, unfolding(crate::specs::Allowed::address_allowed))]
 fn is_readable(address: [u8; 6]) -> bool
@@ -45,42 +38,46 @@ fn is_readable(address: [u8; 6]) -> bool
 
 // A read: the address, then the identifier.
 #[tactic(auto, unfolding(crate::specs::Allowed::conditions_of, laws::specs::Checks::first_failing))]
-fn read_admission(address: [u8; 6], identifier: u32) -> Admission
-    ensures { result ≡ first_failing Admission.Refused (conditions_of Action.ReadData address identifier 0 [] 0) Admission.Allowed }
+fn read_admission(address: [u8; 6], identifier: u32) -> Result<(), Cause>
+    ensures { result ≡ first_failing Err (conditions_of Action.ReadData address identifier 0 [] 0) (Ok tt) }
 {
     if !is_readable(address) {
-        return Admission::Refused(Cause::Address);
+        return Err(Cause::Address);
     }
-    let Lookup::Listed(_) = item_of(identifier) else {
-        return Admission::Refused(Cause::NotListed);
+    let Some(_) = item_of(identifier) else {
+        return Err(Cause::NotListed);
     };
-    Admission::Allowed
+    Ok(())
 }
 
 // What is left of a write of a listed item: writable, the level, the value's length, then its content, decimal before ranges.
 #[tactic(auto, unfolding(crate::specs::Allowed::value_conditions, crate::specs::Allowed::content_checks, laws::specs::Checks::first_failing))]
-fn value_admission(level: u8, value: [u8; MOST_VALUE], count: usize, item: Item) -> Admission
-    ensures { result ≡ first_failing Admission.Refused (value_conditions level value count item) Admission.Allowed }
+fn value_admission(
+    level: u8,
+    value: [u8; MOST_VALUE],
+    count: usize,
+    item: Item,
+) -> Result<(), Cause>
+    ensures { result ≡ first_failing Err (value_conditions level value count item) (Ok tt) }
 {
     if !item.writable {
-        return Admission::Refused(Cause::NotWritable);
+        return Err(Cause::NotWritable);
     }
     if 9 < level {
-        return Admission::Refused(Cause::Level);
+        return Err(Cause::Level);
     }
     if MOST_VALUE < count {
-        return Admission::Refused(Cause::Length);
+        return Err(Cause::Length);
     }
     if count != item.length {
-        return Admission::Refused(Cause::Length);
+        return Err(Cause::Length);
     }
-    let content = content_of(item, &value[..count]);
-    match content {
-        Content::Allowed => Admission::Allowed,
-        Content::NotWritable => Admission::Refused(Cause::NotWritable),
-        Content::WrongLength => Admission::Refused(Cause::Length),
-        Content::NotDecimal(_) => Admission::Refused(Cause::NotDecimal),
-        Content::OutOfRange => Admission::Refused(Cause::OutOfRange),
+    match content_of(item, &value[..count]) {
+        Ok(()) => Ok(()),
+        Err(ContentError::NotWritable) => Err(Cause::NotWritable),
+        Err(ContentError::WrongLength) => Err(Cause::Length),
+        Err(ContentError::NotDecimal(_)) => Err(Cause::NotDecimal),
+        Err(ContentError::OutOfRange) => Err(Cause::OutOfRange),
     }
 }
 
@@ -92,14 +89,14 @@ fn write_admission(
     level: u8,
     value: [u8; MOST_VALUE],
     count: usize,
-) -> Admission
-    ensures { result ≡ first_failing Admission.Refused (conditions_of Action.WriteData address identifier level value count) Admission.Allowed }
+) -> Result<(), Cause>
+    ensures { result ≡ first_failing Err (conditions_of Action.WriteData address identifier level value count) (Ok tt) }
 {
     if !is_good(address) {
-        return Admission::Refused(Cause::Address);
+        return Err(Cause::Address);
     }
-    let Lookup::Listed(item) = item_of(identifier) else {
-        return Admission::Refused(Cause::NotListed);
+    let Some(item) = item_of(identifier) else {
+        return Err(Cause::NotListed);
     };
     value_admission(level, value, count, item)
 }
@@ -114,12 +111,12 @@ pub fn admit(
     level: u8,
     value: [u8; MOST_VALUE],
     count: usize,
-) -> Admission
+) -> Result<(), Cause>
     ensures { result ≡ admission action address identifier level value count }
 {
     match action {
         Action::ReadData => read_admission(address, identifier),
-        Action::ReadAddress => Admission::Allowed,
+        Action::ReadAddress => Ok(()),
         Action::WriteData => write_admission(address, identifier, level, value, count),
     }
 }

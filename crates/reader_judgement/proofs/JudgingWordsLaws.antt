@@ -1,5 +1,10 @@
 -- The tests and checks of a reply say what document 01 says in words.
-use Rattle.std.specs.Prelude.{ℕ, ◌≡◌, refl, List, [], ◌∷◌, Bool, false, ◌||◌, ◌↔◌, length, get_or, drop}
+use Rattle.laws.specs.ResultLaws.{err_same}
+use Rattle.reader_judgement.specs.declared.Reply.{Reply}
+use Rattle.frame.specs.declared.refusal.Refusal.{Refusal}
+use Rattle.std.specs.Prelude.{ℕ, ◌≡◌, refl, List, [], ◌∷◌, Bool, false, ◌||◌, ◌↔◌, length, get_or, drop, Err, None, Ok, Option, Some, Result}
+use Rattle.item.specs.declared.table.Item.{Item}
+use Rattle.reader_judgement.specs.declared.Reply.TheVariants.{Error, Value}
 use Rattle.std.proofs.Common.{sym, ap, ◌∙◌, arith, leb-true, le-leb, eqb-true, eq-eqb}
 use Rattle.std.proofs.Math.Bool.{true, true≢false, and-eq-true_iff, or-true}
 use Rattle.std.proofs.lemmas.Bool.{false≢true}
@@ -14,13 +19,10 @@ use Rattle.item_address.specs.Address.{is_good, is_short, short_matches}
 use Rattle.item_address.proofs.AddressLaws.{good, is_good_lem, short-address, is_short_lem, short-for, for-short}
 use Rattle.item_command.specs.Reply.{control_code, reply_to}
 use Rattle.item.specs.Table.{item_of, has_length}
-use Rattle.item.specs.declared.table.Lookup.{Lookup}
-use Rattle.item.specs.declared.table.Lookup.TheVariants.{Listed, NotListed}
 use Rattle.reader_judgement.specs.Judging.{is_normal, is_error, answers_from, answers, error_checks, normal_checks, reply_value, data_judgement}
 use Rattle.reader_judgement.specs.JudgingWords.{NormalControl, ErrorControl, FromAsked, equal, short, MayComeFrom, IsAnAnswer, normal, error, ItemLength, error_words, normal_words, data_words, value_of_reply}
 use Rattle.reader_judgement.specs.declared.Action.{Action}
 use Rattle.reader_judgement.specs.declared.Action.TheVariants.{ReadData, ReadAddress, WriteData}
-use Rattle.reader_judgement.specs.declared.Judgement.TheVariants.{Value, Error, Refused}
 
 -- The control codes of normal replies are 91, 93 and 94, and those of error replies D1 and D4.
 pub normal-control : (action : Action) (control : ℕ) → (is_normal action control ≡ true) ↔ NormalControl action control
@@ -85,9 +87,9 @@ module _ (address from : List ℕ) (six : length address ≡ 6) (from-six : leng
 item-length : (identifier n : ℕ) → (has_length (item_of identifier) n ≡ true) ↔ ItemLength identifier n
 item-length identifier n = (go (item_of identifier) refl, λ w. rw w.listed (eq-eqb n _ w.as_long))
   where
-    go : (found : Lookup) → item_of identifier ≡ found → has_length found n ≡ true → ItemLength identifier n
-    go (Listed item) e h = record { item = item; listed = e; as_long = eqb-true n _ h }
-    go NotListed e h = absurd (false≢true h)
+    go : (found : Option Item) → item_of identifier ≡ found → has_length found n ≡ true → ItemLength identifier n
+    go (Some item) e h = record { item = item; listed = e; as_long = eqb-true n _ h }
+    go None e h = absurd (false≢true h)
 
 -- The checks of an error reply's data, and those of a normal reply's, say these words.
 pub say_error : (payload : List ℕ) → Say (error_checks payload) (error_words payload)
@@ -124,17 +126,17 @@ value-words ReadData payload = refl
 value-words ReadAddress payload = refl
 value-words WriteData payload = refl
 
--- Refusals differ by their numbers, and are neither values nor error bytes.
-pub refused-one : (n k : ℕ) → Refused n ≡ Refused k → n ≡ k
-refused-one n k e = cc
+-- Refusals are neither values nor error bytes.
+pub refused-one : (n k : Refusal) → ◌≡◌ {A = Result Reply Refusal} (Err n) (Err k) → n ≡ k
+refused-one n k e = err_same e
 
-pub refused_no_value : (n k : ℕ) → Refused n ≡ Value k → ⊥
+pub refused_no_value : (n : Refusal) (k : ℕ) → Err n ≡ Ok (Value k) → ⊥
 refused_no_value n k e = let z : ◌≡◌ {A = ℕ} 0 1 = cc in omega arith
 
-pub refused_no_error : (n k : ℕ) → Refused n ≡ Error k → ⊥
+pub refused_no_error : (n : Refusal) (k : ℕ) → Err n ≡ Ok (Error k) → ⊥
 refused_no_error n k e = let z : ◌≡◌ {A = ℕ} 0 1 = cc in omega arith
 
-value_no_error : (n k : ℕ) → Value n ≡ Error k → ⊥
+value_no_error : (n k : ℕ) → ◌≡◌ {A = Result Reply Refusal} (Ok (Value n)) (Ok (Error k)) → ⊥
 value_no_error n k e = let z : ◌≡◌ {A = ℕ} 0 1 = cc in omega arith
 
 -- Data of length 1 that begin with this byte are this byte alone.
@@ -157,47 +159,47 @@ no_error action control c = by (is_error action control) refl
 module _ (action : Action) (identifier control : ℕ) (from payload : List ℕ) where
   normal-judged : NormalControl action control
       → data_judgement action identifier control from payload
-      ≡ first_failing Refused (normal_checks action identifier from payload) (Value (length (value_of_reply action payload)))
+      ≡ first_failing Err (normal_checks action identifier from payload) (Ok (Value (length (value_of_reply action payload))))
   unfolding data_judgement
   normal-judged c = rw (no_error action control c, value-words action payload)
 
   error-judged : ErrorControl action control
-      → data_judgement action identifier control from payload ≡ first_failing Refused (error_checks payload) (Error (get_or payload 0 0))
+      → data_judgement action identifier control from payload ≡ first_failing Err (error_checks payload) (Ok (Error (get_or payload 0 0)))
   unfolding data_judgement
   error-judged c = rw ((error-control action control).1 c)
 
   -- The judgement of the data of a reply whose control and address are an answer, in words.
   module _ {address : List ℕ} where
-    pub data_refused : (answer : IsAnAnswer action address control from) (n : ℕ)
-        → (data_judgement action identifier control from payload ≡ Refused n) ↔ FirstFails (data_words identifier payload answer) n
+    pub data_refused : (answer : IsAnAnswer action address control from) (n : Refusal)
+        → (data_judgement action identifier control from payload ≡ Err n) ↔ FirstFails (data_words identifier payload answer) n
     data_refused (normal c f) n =
         rw (normal-judged c)
-        (failed-iff Refused _ (λ k. refused_no_value k _) refused-one _ _ (say_normal action identifier from payload) n)
+        (failed-iff Err _ (λ k. refused_no_value k _) refused-one _ _ (say_normal action identifier from payload) n)
     data_refused (error c f) n =
-        rw (error-judged c) (failed-iff Refused _ (λ k. refused_no_error k _) refused-one _ _ (say_error payload) n)
+        rw (error-judged c) (failed-iff Err _ (λ k. refused_no_error k _) refused-one _ _ (say_error payload) n)
 
     pub data_value : IsAnAnswer action address control from → (n : ℕ)
-        → (data_judgement action identifier control from payload ≡ Value n)
+        → (data_judgement action identifier control from payload ≡ Ok (Value n))
         ↔ (NormalControl action control × Every (normal_words action identifier from payload) × (n ≡ length (value_of_reply action payload)))
     data_value (normal c f) n =
-        let iff = answered-iff Refused _ _ _ (say_normal action identifier from payload) (Value n) (λ k. refused_no_value k n) in
+        let iff = answered-iff Err _ _ _ (say_normal action identifier from payload) (Ok (Value n)) (λ k. refused_no_value k n) in
         rw (normal-judged c) (λ e. let w = iff.0 e in (c, w.0, cc), λ w. iff.1 (w.1, cc))
     data_value (error c f) n =
         rw (error-judged c) (
-          λ e. absurd (value_no_error n _ (sym ((answered-iff Refused _ _ _ (say_error payload) (Value n) (λ k. refused_no_value k n)).0 e).1)),
+          λ e. absurd (value_no_error n _ (sym ((answered-iff Err _ _ _ (say_error payload) (Ok (Value n)) (λ k. refused_no_value k n)).0 e).1)),
           λ w. absurd (never_both action control w.0 c),
         )
 
     pub data_error : IsAnAnswer action address control from → (byte : ℕ)
-        → (data_judgement action identifier control from payload ≡ Error byte) ↔ (ErrorControl action control × (payload ≡ byte ∷ []))
+        → (data_judgement action identifier control from payload ≡ Ok (Error byte)) ↔ (ErrorControl action control × (payload ≡ byte ∷ []))
     data_error (normal c f) byte =
         rw (normal-judged c) (
-          λ e. absurd (value_no_error _ byte ((answered-iff Refused _ _ _ (say_normal action identifier from payload) (Error byte) (λ k. refused_no_error k byte)).0 e).1),
+          λ e. absurd (value_no_error _ byte ((answered-iff Err _ _ _ (say_normal action identifier from payload) (Ok (Error byte)) (λ k. refused_no_error k byte)).0 e).1),
           λ w. absurd (never_both action control c w.0),
         )
     data_error (error c f) byte =
-        let iff = answered-iff Refused _ _ _ (say_error payload) (Error byte) (λ k. refused_no_error k byte) in
+        let iff = answered-iff Err _ _ _ (say_error payload) (Ok (Error byte)) (λ k. refused_no_error k byte) in
         rw (error-judged c) (
           λ e. let w = iff.0 e in (c, (one_byte payload byte).0 (w.0.0, cc)),
-          λ w. let one = (one_byte payload byte).1 w.1 in iff.1 ((one.0, tt), ap Error one.1),
+          λ w. let one = (one_byte payload byte).1 w.1 in iff.1 ((one.0, tt), ap (λ byte. Ok (Error byte)) one.1),
         )

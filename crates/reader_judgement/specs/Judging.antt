@@ -1,8 +1,11 @@
 -- Document 01, "The reader's end": a reply's control code, address and data are judged against what was asked.
-use Rattle.std.specs.Prelude.{ℕ, List, [], ◌∷◌, Bool, true, false, ◌&&◌, ◌||◌, length, get_or, take, drop, leb, eqb}
+use Rattle.std.specs.Prelude.{ℕ, List, [], ◌∷◌, Bool, true, false, ◌&&◌, ◌||◌, length, get_or, take, drop, leb, eqb, Err, Ok, Result}
+use Rattle.frame.specs.declared.refusal.Refusal.{Refusal}
+use Rattle.frame.specs.declared.refusal.Refusal.TheVariants.{Malformed, NotAnAnswer}
+use Rattle.reader_judgement.specs.declared.Reply.{Reply}
+use Rattle.reader_judgement.specs.declared.Reply.TheVariants.{Error, Value}
 use Rattle.laws.specs.Test.{pick}
 use Rattle.laws.specs.Checks.{Check, check, first_failing}
-use Rattle.frame.specs.Refusals.{not_an_answer, malformed}
 use Rattle.item_same.specs.Same.{same}
 use Rattle.item_decimal.specs.Decimal.{all_decimal}
 use Rattle.item_address.specs.Address.{is_good, is_short, short_matches}
@@ -14,8 +17,6 @@ use Rattle.item_identifier.specs.Identifier.{identifier_bytes}
 use Rattle.item.specs.Table.{item_of, has_length}
 use Rattle.reader_judgement.specs.declared.Action.{Action}
 use Rattle.reader_judgement.specs.declared.Action.TheVariants.{ReadData, ReadAddress, WriteData}
-use Rattle.reader_judgement.specs.declared.Judgement.{Judgement}
-use Rattle.reader_judgement.specs.declared.Judgement.TheVariants.{Value, Error, Refused}
 
 -- The command that a meter knows an action as.
 abbrev pub command_for : Action → Command
@@ -47,25 +48,25 @@ abbrev pub answers : Action → List ℕ → ℕ → List ℕ → Bool
 answers action address control from = (is_normal action control || is_error action control) && answers_from action address from
 
 -- The check of an error reply's data.
-unfoldable pub error_checks : List ℕ → List (Check ℕ)
-error_checks payload = check (eqb (length payload) 1) malformed ∷ []
+unfoldable pub error_checks : List ℕ → List (Check Refusal)
+error_checks payload = check (eqb (length payload) 1) Malformed ∷ []
 
 -- The checks of a normal reply's data. A 93 repeats its own address, a good one.
-unfoldable pub normal_checks : Action → ℕ → List ℕ → List ℕ → List (Check ℕ)
+unfoldable pub normal_checks : Action → ℕ → List ℕ → List ℕ → List (Check Refusal)
 normal_checks ReadData identifier from payload =
-    check (leb 4 (length payload)) malformed
-    ∷ check (same (take 4 payload) (identifier_bytes identifier)) not_an_answer
-    ∷ check (has_length (item_of identifier) (length (drop 4 payload))) malformed
-    ∷ check (all_decimal (drop 4 payload)) malformed
+    check (leb 4 (length payload)) Malformed
+    ∷ check (same (take 4 payload) (identifier_bytes identifier)) NotAnAnswer
+    ∷ check (has_length (item_of identifier) (length (drop 4 payload))) Malformed
+    ∷ check (all_decimal (drop 4 payload)) Malformed
     ∷ []
 normal_checks ReadAddress identifier from payload =
-    check (eqb (length payload) 6) malformed
-    ∷ check (all_decimal payload) malformed
-    ∷ check (same payload from) malformed
-    ∷ check (is_good from) malformed
+    check (eqb (length payload) 6) Malformed
+    ∷ check (all_decimal payload) Malformed
+    ∷ check (same payload from) Malformed
+    ∷ check (is_good from) Malformed
     ∷ []
 normal_checks WriteData identifier from payload =
-    check (eqb (length payload) 0) malformed
+    check (eqb (length payload) 0) Malformed
     ∷ []
 
 -- The value of a normal reply: its data, the identifier of a 91 removed.
@@ -78,8 +79,8 @@ unfoldable pub reply_value : Action → List ℕ → List ℕ
 reply_value action payload = drop (value_start action) payload
 
 -- A good error reply yields its byte, whichever it is; a good normal reply its value.
-unfoldable pub data_judgement : Action → ℕ → ℕ → List ℕ → List ℕ → Judgement
+unfoldable pub data_judgement : Action → ℕ → ℕ → List ℕ → List ℕ → Result Reply Refusal
 data_judgement action identifier control from payload =
     pick (is_error action control)
-    (first_failing Refused (error_checks payload) (Error (get_or payload 0 0)))
-    (first_failing Refused (normal_checks action identifier from payload) (Value (length (reply_value action payload))))
+    (first_failing Err (error_checks payload) (Ok (Error (get_or payload 0 0))))
+    (first_failing Err (normal_checks action identifier from payload) (Ok (Value (length (reply_value action payload)))))

@@ -2,9 +2,9 @@
 ghost use Rattle.std.specs.Prelude.{◌≡◌};
 ghost use Rattle.reader_judgement.specs.Judging.{may_fail, is_normal, is_error, answers_from};
 
-use crate::{Action, command_for};
+use crate::Action;
 use item_address::{is_good, is_short, short_matches};
-use item_command::control_of;
+use item_command::Command;
 use item_command::reply::reply_to;
 use item_same::same_bytes;
 
@@ -24,7 +24,7 @@ fn may_fail(action: Action) -> bool
 pub(crate) fn is_normal(action: Action, control: u8) -> bool
     ensures { result ≡ is_normal action control }
 {
-    control == reply_to(control_of(command_for(action)), false)
+    control == reply_to(u8::from(Command::from(action)), false)
 }
 
 // Whether a control code is that of the error reply to an action.
@@ -33,7 +33,7 @@ pub(crate) fn is_error(action: Action, control: u8) -> bool
     ensures { result ≡ is_error action control }
 {
     if may_fail(action) {
-        return control == reply_to(control_of(command_for(action)), true);
+        return control == reply_to(u8::from(Command::from(action)), true);
     }
     false
 }

@@ -1,11 +1,11 @@
 // The data of each reply judged: the decision is made by value before anything is written.
-ghost use Rattle.std.specs.Prelude.{◌≡◌, [], length, get_or, drop};
+ghost use Rattle.std.specs.Prelude.{◌≡◌, [], length, get_or, drop, Ok, Err};
 ghost use Rattle.laws.specs.Checks.{first_failing};
 ghost use Rattle.reader_judgement.specs.Judging.{error_checks, normal_checks};
 
-use crate::{Action, Judgement};
-use frame::refusal::{MALFORMED, NOT_AN_ANSWER};
-use item::table::{Lookup, item_of};
+use crate::{Action, Reply};
+use frame::refusal::Refusal;
+use item::table::item_of;
 use item_address::is_good;
 use item_decimal::all_decimal;
 use item_identifier::identifier_bytes;
@@ -13,67 +13,67 @@ use item_same::same_bytes;
 
 // An error reply: L 1, and its byte.
 #[tactic(auto, unfolding(crate::specs::Judging::error_checks, laws::specs::Checks::first_failing))]
-pub(crate) fn judge_error(payload: &[u8]) -> Judgement
-    ensures { result ≡ first_failing Judgement.Refused (error_checks payload.now) (Judgement.Error (get_or payload.now 0 0)) }
+pub(crate) fn judge_error(payload: &[u8]) -> Result<Reply, Refusal>
+    ensures { result ≡ first_failing Err (error_checks payload.now) (Ok (Reply.Error (get_or payload.now 0 0))) }
 {
     if payload.len() != 1 {
-        return Judgement::Refused(MALFORMED);
+        return Err(Refusal::Malformed);
     }
-    Judgement::Error(payload[0])
+    Ok(Reply::Error(payload[0]))
 }
 
 // A 91: L of at least 4, the identifier, the value's length, every half byte.
 #[tactic(auto, unfolding(crate::specs::Judging::normal_checks, laws::specs::Checks::first_failing))]
-pub(crate) fn judge_read(identifier: u32, payload: &[u8]) -> Judgement
-    ensures { result ≡ first_failing Judgement.Refused (normal_checks Action.ReadData identifier [] payload.now) (Judgement.Value (length (drop 4 payload.now))) }
+pub(crate) fn judge_read(identifier: u32, payload: &[u8]) -> Result<Reply, Refusal>
+    ensures { result ≡ first_failing Err (normal_checks Action.ReadData identifier [] payload.now) (Ok (Reply.Value (length (drop 4 payload.now)))) }
 {
     if payload.len() < 4 {
-        return Judgement::Refused(MALFORMED);
+        return Err(Refusal::Malformed);
     }
     let asked = identifier_bytes(identifier);
     if !same_bytes(&payload[..4], &asked) {
-        return Judgement::Refused(NOT_AN_ANSWER);
+        return Err(Refusal::NotAnAnswer);
     }
     let value = &payload[4..];
-    let Lookup::Listed(item) = item_of(identifier) else {
-        return Judgement::Refused(MALFORMED);
+    let Some(item) = item_of(identifier) else {
+        return Err(Refusal::Malformed);
     };
     if value.len() != item.length {
-        return Judgement::Refused(MALFORMED);
+        return Err(Refusal::Malformed);
     }
     if !all_decimal(value) {
-        return Judgement::Refused(MALFORMED);
+        return Err(Refusal::Malformed);
     }
-    Judgement::Value(value.len())
+    Ok(Reply::Value(value.len()))
 }
 
 // A 93: L 6, every half byte, its own address repeated, a good one.
 #[tactic(auto, unfolding(crate::specs::Judging::normal_checks, laws::specs::Checks::first_failing))]
-pub(crate) fn judge_address(from: [u8; 6], payload: &[u8]) -> Judgement
-    ensures { result ≡ first_failing Judgement.Refused (normal_checks Action.ReadAddress 0 from payload.now) (Judgement.Value (length payload.now)) }
+pub(crate) fn judge_address(from: [u8; 6], payload: &[u8]) -> Result<Reply, Refusal>
+    ensures { result ≡ first_failing Err (normal_checks Action.ReadAddress 0 from payload.now) (Ok (Reply.Value (length payload.now))) }
 {
     if payload.len() != 6 {
-        return Judgement::Refused(MALFORMED);
+        return Err(Refusal::Malformed);
     }
     if !all_decimal(payload) {
-        return Judgement::Refused(MALFORMED);
+        return Err(Refusal::Malformed);
     }
     if !same_bytes(payload, &from) {
-        return Judgement::Refused(MALFORMED);
+        return Err(Refusal::Malformed);
     }
     if !is_good(from) {
-        return Judgement::Refused(MALFORMED);
+        return Err(Refusal::Malformed);
     }
-    Judgement::Value(6)
+    Ok(Reply::Value(6))
 }
 
 // A 94: L 0.
 #[tactic(auto, unfolding(crate::specs::Judging::normal_checks, laws::specs::Checks::first_failing))]
-pub(crate) fn judge_written(payload: &[u8]) -> Judgement
-    ensures { result ≡ first_failing Judgement.Refused (normal_checks Action.WriteData 0 [] payload.now) (Judgement.Value (length payload.now)) }
+pub(crate) fn judge_written(payload: &[u8]) -> Result<Reply, Refusal>
+    ensures { result ≡ first_failing Err (normal_checks Action.WriteData 0 [] payload.now) (Ok (Reply.Value (length payload.now))) }
 {
     if payload.len() != 0 {
-        return Judgement::Refused(MALFORMED);
+        return Err(Refusal::Malformed);
     }
-    Judgement::Value(0)
+    Ok(Reply::Value(0))
 }

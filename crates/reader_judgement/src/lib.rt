@@ -8,6 +8,7 @@ ghost use Rattle.std.specs.Prelude.{◌≡◌};
 ghost use Rattle.reader_judgement.specs.Judging.{command_for, answers, data_judgement, value_start};
 
 use answer::{answers_from, is_error, is_normal};
+use frame::refusal::Refusal;
 use item_command::Command;
 use judge::{judge_address, judge_error, judge_read, judge_written};
 
@@ -19,25 +20,25 @@ pub enum Action {
     WriteData,
 }
 
-// The answer to the judging of a reply.
+// What a reply comes to that answers the request.
 #[derive(Clone, Copy)]
-pub enum Judgement {
+pub enum Reply {
     // The length of the value: 0 for a write that was accepted.
     Value(usize),
     // The byte of an error reply.
     Error(u8),
-    // A refusal, by document 01's number.
-    Refused(u8),
 }
 
 // The command that a meter knows an action as.
-pub fn command_for(action: Action) -> Command
-    ensures { result ≡ command_for action }
-{
-    match action {
-        Action::ReadData => Command::ReadData,
-        Action::ReadAddress => Command::ReadAddress,
-        Action::WriteData => Command::WriteData,
+impl From<Action> for Command {
+    ghost from_gives = { λ action command. command ≡ command_for action };
+
+    fn from(action: Action) -> Self {
+        match action {
+            Action::ReadData => Command::ReadData,
+            Action::ReadAddress => Command::ReadAddress,
+            Action::WriteData => Command::WriteData,
+        }
     }
 }
 
@@ -61,7 +62,7 @@ pub fn judge_data(
     control: u8,
     from: [u8; 6],
     payload: &[u8],
-) -> Judgement
+) -> Result<Reply, Refusal>
     ensures { result ≡ data_judgement action identifier control from payload.now }
 {
     if is_error(action, control) {

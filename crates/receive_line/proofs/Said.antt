@@ -1,18 +1,19 @@
 -- What the papers say of the number that a whole line is answered with, when it is refused, and that the memory is then as it was.
 use Rattle.std.specs.Prelude.{ℕ, ◌-◌, ◌^◌, ◌<◌, List, [], ◌∷◌, ◌++◌, map, length, leb, eqb}
+use Rattle.frame.specs.Refusals.{number_of}
+use Rattle.frame.specs.declared.refusal.Refusal.TheVariants.{ShortMemory}
 use Rattle.std.proofs.Common.{arith, leb-true, leb-false, eqb-true}
 use Rattle.laws.specs.Memory.{Outcome}
 use Rattle.laws.specs.Said.{Said, values, refusal, IsRefusal, Refuses, refuses, answers}
 use Rattle.laws.specs.Test.{pick}
 use Rattle.laws.specs.TestLaws.{pick_cases}
-use Rattle.frame.specs.Refusals.{short_memory}
 use Rattle.line_terms.specs.Line.{byte, silence}
 use Rattle.line_terms.proofs.FramesFew.{bytes_in_closed, frames-few}
 use Rattle.receive_line.specs.WholeLine.{frames_in, received_line}
 
 -- The largest number is too little memory, 1; any other is how many bytes the frames have.
 abbrev pub line_said : ℕ → Said
-line_said n = pick (eqb n (2 ^ 64 - 1)) (refusal short_memory) (values (n ∷ []))
+line_said n = pick (eqb n (2 ^ 64 - 1)) (refusal (number_of ShortMemory)) (values (n ∷ []))
 
 -- A number below the largest is no refusal.
 no_refusal : (n : ℕ) → n < 2 ^ 64 - 1 → IsRefusal (line_said n) → ⊥

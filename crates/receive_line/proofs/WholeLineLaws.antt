@@ -1,5 +1,11 @@
 -- Laws of a receiver that is fed a line while the frames it delivers are gathered in memory.
-use Rattle.std.specs.Prelude.{ℕ, ◌+◌, ◌-◌, ◌≤◌, ◌<◌, ◌^◌, ◌≡◌, refl, List, [], ◌∷◌, ◌++◌, map, length, get_or, leb, Bool, true, false}
+use Rattle.line.proofs.AnswerLaws.{handed_same}
+use Rattle.line.specs.declared.Delivered.{Delivered}
+use Rattle.std.specs.Prelude.{ℕ, ◌+◌, ◌-◌, ◌≤◌, ◌<◌, ◌^◌, ◌≡◌, refl, List, [], ◌∷◌, ◌++◌, map, length, get_or, leb, Bool, true, false, Err, Result, Ok}
+use Rattle.frame.specs.declared.refusal.Refusal.{Refusal}
+use Rattle.frame.specs.declared.refusal.Refusal.TheVariants.{ShortMemory}
+use Rattle.line.specs.Answer.{handed}
+use Rattle.line_block.specs.declared.BlockRead.{BlockRead}
 use Rattle.std.proofs.Common.{add-one, arith, ap, sym, ◌∙◌, append-nil, length-append, length-take, take_all, take-suc, length-take-le, le-leb}
 use Rattle.std.proofs.lemmas.List.{map-append}
 use Rattle.std.proofs.Math.ListN.{take}
@@ -17,11 +23,8 @@ use Rattle.line.proofs.CallLaws.{HasReceived, fresh-received, new_frames, after_
 use Rattle.line.proofs.DeliversLaws.{Delivers, call-delivers}
 use Rattle.line.specs.declared.Receiver.{Receiver}
 use Rattle.line.specs.declared.Received.{Received}
-use Rattle.line.specs.declared.Answer.TheVariants.{Refused, Delivered}
 use Rattle.line_block.specs.Drain.{symbols, reading_from}
 use Rattle.line_block.specs.Block.{block_reading, delivered, block_read}
-use Rattle.line_block.specs.declared.BlockAnswer.{BlockAnswer}
-use Rattle.line_block.specs.declared.BlockAnswer.TheVariants as blocks
 use Rattle.receive_line.specs.WholeLine.{frames_in, received_line}
 use Rattle.receive_line.specs.Receiving.{Receiving}
 
@@ -35,13 +38,13 @@ unfolding scan joined
 receiving_start m = record { heard = fresh-received; gathered = record { count = refl; memory = refl } }
 
 -- A call of a receiver that has heard a line, with memory enough, is not refused.
-pub never-refused : {x : List Symbol} {r : Receiver} {returned : Received} {left : List ℕ} {n : ℕ} (s : Symbol) (m : List ℕ) → HasReceived x r →
-    212 ≤ length m → outcome returned left ≡ called s r m → returned.answer ≡ Refused n → ⊥
+pub never-refused : {x : List Symbol} {r : Receiver} {returned : Received} {left : List ℕ} {n : Refusal} (s : Symbol) (m : List ℕ) → HasReceived x r →
+    212 ≤ length m → outcome returned left ≡ called s r m → returned.answer ≡ Err n → ⊥
 never-refused s m h l e a = let d = (call-delivers s m h l e).0.answer in let z : ◌≡◌ {A = ℕ} 0 1 = cc in omega arith
 
 -- A call with a symbol, with memory enough, of a receiver whose frames are gathered, where the line's bytes are no more than the memory.
 module _ {x : List Symbol} {m₀ m left : List ℕ} {r : Receiver} {returned : Received} {at count frames : ℕ} (s : Symbol) (scratch : List ℕ)
-    (h : Receiving x m₀ m r at) (enough : 212 ≤ length scratch) (e : outcome returned left ≡ called s r scratch) (a : returned.answer ≡ Delivered count frames)
+    (h : Receiving x m₀ m r at) (enough : 212 ≤ length scratch) (e : outcome returned left ≡ called s r scratch) (a : returned.answer ≡ handed count frames)
     (fits : bytes_in (x ++ (s ∷ [])) ≤ length m₀) where
   -- It delivers the new frames, and has then heard the symbol.
   delivered-new : Delivers (joined (new_frames x s)) (length (new_frames x s)) scratch left returned
@@ -52,7 +55,7 @@ module _ {x : List Symbol} {m₀ m left : List ℕ} {r : Receiver} {returned : R
 
   -- It counts their bytes, which stand at the front of its memory.
   new-put : Puts (joined (new_frames x s)) count scratch left
-  new-put = record { count = cc (a, delivered-new.answer); memory = delivered-new.memory }
+  new-put = record { count = (handed_same (sym a ∙ delivered-new.answer)).0; memory = delivered-new.memory }
 
   -- The frames delivered with one symbol more are those before and those that the call delivers.
   more : joined (scan 0 0 (x ++ (s ∷ []))).frames ≡ joined (scan 0 0 x).frames ++ joined (new_frames x s)
@@ -95,6 +98,11 @@ pub record Turning (input : List ℕ) (i : ℕ) (scratch m₀ m : List ℕ) (r :
   pub same : length m ≡ length m₀
   pub so_far : Receiving (map byte (take i input)) m₀ m r at
 
+-- An answer is a refusal or not.
+pub refused_or_not : (a : Result Delivered Refusal) → ((n : Refusal) → a ≡ Err n → ⊥) → ((d : Delivered) → a ≡ Ok d → ⊥) → ⊥
+refused_or_not (Err n) r delivers = r n refl
+refused_or_not (Ok d) r delivers = delivers d refl
+
 -- Before the first turn.
 pub turning_start : {r : Receiver} (input scratch m : List ℕ) → length scratch ≡ 212 → r ≡ fresh → Turning input 0 scratch m m r 0
 turning_start input scratch m n e =
@@ -104,7 +112,7 @@ turning_start input scratch m n e =
 module _ {input scratch m₀ m left : List ℕ} {i at : ℕ} {r : Receiver} {returned : Received} (t : Turning input i scratch m₀ m r at) (below : i < length input)
     (roomy : length input ≤ length m₀) (e : outcome returned left ≡ called (byte (get_or input i 0)) r scratch) where
   -- It is not refused.
-  pub turn-refused : {n : ℕ} → returned.answer ≡ Refused n → ⊥
+  pub turn-refused : {n : Refusal} → returned.answer ≡ Err n → ⊥
   turn-refused a = never-refused (byte (get_or input i 0)) scratch t.so_far.heard (omega (arith, t.enough)) e a
 
   -- The bytes heard after it are those before and that byte.
@@ -115,7 +123,7 @@ module _ {input scratch m₀ m left : List ℕ} {i at : ℕ} {r : Receiver} {ret
   next_fits : bytes_in (map byte (take i input) ++ (byte (get_or input i 0) ∷ [])) ≤ length m₀
   next_fits = rw (← next, bytes_in_lem, length-take) (omega arith)
 
-  module _ {count frames : ℕ} (a : returned.answer ≡ Delivered count frames) where
+  module _ {count frames : ℕ} (a : returned.answer ≡ handed count frames) where
     -- There is memory enough for a frame.
     roomed : 212 ≤ length scratch
     roomed = omega (arith, t.enough)
@@ -155,7 +163,7 @@ too_short input m h = rw lt-leb
 -- The end: the call with the silence.
 module _ {m₀ m left : List ℕ} {at count frames : ℕ} {r : Receiver} {returned : Received} (input scratch : List ℕ) (enough : length scratch ≡ 212)
     (roomy : length input ≤ length m₀) (h : Receiving (map byte input) m₀ m r at) (e : outcome returned left ≡ called silence r scratch)
-    (a : returned.answer ≡ Delivered count frames) where
+    (a : returned.answer ≡ handed count frames) where
   -- The line's bytes are no more than the memory.
   last_fits : bytes_in (map byte input ++ (silence ∷ [])) ≤ length m₀
   last_fits = rw bytes_in_closed roomy
@@ -177,19 +185,19 @@ module _ {m₀ m left : List ℕ} {at count frames : ℕ} {r : Receiver} {return
       rw (le-leb (length input) (length m₀) roomy, p, q, all.gathered.memory, all.gathered.count)
 
 -- An answer to the reading of a block as one number.
-abbrev pub number_returned : BlockAnswer → ℕ
-number_returned (blocks.Refused n) = 2 ^ 64 - 1
-number_returned (blocks.Delivered bytes frames rest) = bytes
+abbrev pub number_returned : Result BlockRead Refusal → ℕ
+number_returned (Err n) = 2 ^ 64 - 1
+number_returned (Ok read) = read.bytes
 
-abbrev numbered : Outcome BlockAnswer → Outcome ℕ
+abbrev numbered : Outcome (Result BlockRead Refusal) → Outcome ℕ
 numbered o = outcome (number_returned o.answer) o.memory
 
 -- The line read straight, as one block with which it has ended.
-pub line_read : (input m₀ m : List ℕ) (answer : BlockAnswer) → outcome answer m ≡ block_read input true m₀ → outcome (number_returned answer) m ≡ received_line input m₀
+pub line_read : (input m₀ m : List ℕ) (answer : Result BlockRead Refusal) → outcome answer m ≡ block_read input true m₀ → outcome (number_returned answer) m ≡ received_line input m₀
 unfolding received_line frames_in block_read block_reading reading_from symbols delivered
 line_read input m₀ m answer e = ap numbered e ∙ by (leb (length input) (length m₀))
   where
-    by : (t : Bool) → numbered (pick t (delivered (block_reading input true) (length input) m₀) (outcome (blocks.Refused 1) m₀)) ≡
+    by : (t : Bool) → numbered (pick t (delivered (block_reading input true) (length input) m₀) (outcome (Err ShortMemory) m₀)) ≡
         pick t (outcome (length (frames_in input)) (over (frames_in input) m₀)) (outcome (2 ^ 64 - 1) m₀)
     by true = refl
     by false = refl

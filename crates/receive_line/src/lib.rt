@@ -9,8 +9,7 @@ ghost use Rattle.receive_line.specs.WholeLine.{received_line};
 ghost use Rattle.receive_line.specs.Receiving.{Receiving};
 
 use frame::MOST_FRAME;
-use line::{Answer, Received, Receiver};
-use line_block::BlockAnswer;
+use line::{Delivered, Received, Receiver};
 
 // A receiver that has been fed, and how many bytes the frames have that it delivered.
 #[derive(Clone, Copy)]
@@ -19,16 +18,17 @@ struct Fed {
     at: usize,
 }
 
-// Copies the first `count` bytes of `delivered` to `out` from `at` on, and returns where they end.
-fn gather(delivered: &[u8], count: usize, at: usize, out: &mut [u8]) -> usize
-    requires { (count ≤ length delivered.now) × (at + count ≤ length out.old) }
-    ensures { (result ≡ at + count) × (out.new ≡ over (take at out.old ++ take count delivered.now) out.old) }
+// Copies what was delivered to `out` from `at` on, and returns where it ends. Mostly it is nothing, and then no copy is called.
+fn gather(delivered: &[u8], at: usize, out: &mut [u8]) -> usize
+    requires { at + length delivered.now ≤ length out.old }
+    ensures { (result ≡ at + length delivered.now) × (out.new ≡ over (take at out.old ++ delivered.now) out.old) }
 {
-    if count == 0 {
+    if delivered.is_empty() {
         return at;
     }
-    slice_bytes::copy(&delivered[..count], &mut out[at..]);
-    at + count
+    let end = at + delivered.len();
+    out[at..end].copy_from_slice(delivered);
+    end
 }
 
 // Feeds a fresh receiver every byte of `input`, and writes all frames delivered end to end to the front of `out`. The loop
@@ -37,49 +37,40 @@ fn receive_all(input: &[u8], out: &mut [u8]) -> Fed
     requires { length input.now ≤ length out.old }
     ensures { Receiving (map byte input.now) out.old out.new result.receiver result.at }
 {
-    let fresh = Receiver::new();
     let mut received = Received {
-        receiver: fresh,
-        answer: Answer::Delivered {
+        receiver: Receiver::new(),
+        answer: Ok(Delivered {
             bytes: 0,
             frames: 0,
-        },
+        }),
     };
     let mut scratch = [0u8; MOST_FRAME];
     let mut at = 0;
-    let mut i = 0;
-    while i < input.len() {
-        let receiver = received.receiver;
-        received = receiver.byte(input[i], &mut scratch);
-        let answer = received.answer;
-        match answer {
-            Answer::Refused(_) => {}
-            Answer::Delivered { bytes, frames: _ } => {
-                at = gather(&scratch, bytes, at, out);
-            }
+    for &b in input {
+        received = received.receiver.byte(b, &mut scratch);
+        if let Ok(delivered) = received.answer {
+            at = gather(&scratch[..delivered.bytes], at, out);
         }
-        i += 1;
     }
-    let receiver = received.receiver;
-    Fed { receiver, at }
+    Fed {
+        receiver: received.receiver,
+        at,
+    }
 }
 
 // Feeds a fresh receiver every byte of `input` and then a silence, writes all frames delivered end to end to the front of
-// `out`, and returns how many bytes they have. An `out` shorter than `input` is answered with the largest number.
+// `out`, and returns how many bytes they have. An `out` shorter than `input` is answered with the largest number, since C calls this.
 pub fn receive_line(input: &[u8], out: &mut [u8]) -> usize
     ensures { outcome result out.new ≡ received_line input.now out.old }
 {
     if out.len() < input.len() {
         return usize::MAX;
     }
-    let fed = receive_all(input, out);
-    let at = fed.at;
+    let Fed { receiver, at } = receive_all(input, out);
     let mut scratch = [0u8; MOST_FRAME];
-    let received = fed.receiver.silence(&mut scratch);
-    let answer = received.answer;
-    match answer {
-        Answer::Refused(_) => at,
-        Answer::Delivered { bytes, frames: _ } => gather(&scratch, bytes, at, out),
+    match receiver.silence(&mut scratch).answer {
+        Err(_) => at,
+        Ok(delivered) => gather(&scratch[..delivered.bytes], at, out),
     }
 }
 
@@ -87,13 +78,8 @@ pub fn receive_line(input: &[u8], out: &mut [u8]) -> usize
 pub fn read_line(input: &[u8], out: &mut [u8]) -> usize
     ensures { outcome result out.new ≡ received_line input.now out.old }
 {
-    let answer = line_block::read_block(input, true, out);
-    match answer {
-        BlockAnswer::Refused(_) => usize::MAX,
-        BlockAnswer::Delivered {
-            bytes,
-            frames: _,
-            rest: _,
-        } => bytes,
+    match line_block::read_block(input, true, out) {
+        Err(_) => usize::MAX,
+        Ok(read) => read.bytes,
     }
 }

@@ -1,7 +1,11 @@
 -- A line read in blocks, cut anywhere: one theorem over every list of steps from a buffer that keeps nothing. In all they deliver exactly the frames
 -- certain after the line that they bring, each step those that became certain with it, and keep the rest of the line. The end of a line is a
 -- silence, so that what is certain behind it is what is taken in the line (`ended-taken`).
-use Rattle.std.specs.Prelude.{ℕ, ◌+◌, ◌≤◌, ◌<◌, ◌≡◌, refl, ◌↔◌, ◌⊎◌, Bool, true, false, length, take, drop}
+use Rattle.std.specs.Prelude.{ℕ, ◌+◌, ◌≤◌, ◌<◌, ◌≡◌, refl, ◌↔◌, ◌⊎◌, Bool, true, false, length, take, drop, Err, Result, Ok}
+use Rattle.frame.specs.declared.refusal.Refusal.{Refusal}
+use Rattle.frame.specs.declared.refusal.Refusal.TheVariants.{ShortMemory}
+use Rattle.recording.specs.Answer.{step_gives}
+use Rattle.recording.specs.declared.StepRead.{StepRead}
 use Rattle.std.proofs.Common.{arith, ap, sym, subst, ◌∙◌, ⊎_elim, length-append, take-add}
 use mathlib.Core.List.{List, [], ◌∷◌, ◌++◌, map, map-append, append_assoc, flatten}
 use Rattle.std.proofs.Math.Seq.{take-append_seam}
@@ -21,8 +25,6 @@ use Rattle.recording.specs.Step.{step_outcome, step_reading, step_read}
 use Rattle.recording.proofs.StepLaws.{Stepping, ignores, delivers, stepping}
 use Rattle.recording.specs.Chain.{Says, refuses, keeps, IsRefused, BufferCall, kept_after, Chain, heard}
 use Rattle.recording.proofs.ChainLaws.{reading_of, Answers, refused, reads, found_by, found_in, chain_finds, chain_keeps, NewlyRead, chain_each}
-use Rattle.recording.specs.declared.StepAnswer.{StepAnswer}
-use Rattle.recording.specs.declared.StepAnswer.TheVariants.{Refused, Delivered}
 
 -- A call of the step: how many bytes it was told are kept, how many are read behind them and whether a silence follows; the line's buffer and
 -- the memory lent, what it answered, and both as they stood then.
@@ -32,7 +34,7 @@ pub record StepCall : Type 0 where
   pub ended : Bool
   pub buffer : List ℕ
   pub lent : List ℕ
-  pub answer : StepAnswer
+  pub answer : Result StepRead Refusal
   pub left_buffer : List ℕ
   pub left : List ℕ
 
@@ -49,9 +51,9 @@ abbrev pub brought_by : StepCall → List Symbol
 brought_by c = symbols (new_bytes c.kept c.read c.buffer) c.ended
 
 -- What an answer says of the bytes kept.
-abbrev pub says_of : StepAnswer → Says
-says_of (Refused n) = refuses
-says_of (Delivered bytes frames kept) = keeps kept
+abbrev pub says_of : Result StepRead Refusal → Says
+says_of (Err n) = refuses
+says_of (Ok read) = keeps read.kept
 
 -- A step as a call over the line's buffer.
 abbrev pub on_buffer : StepCall → BufferCall
@@ -65,17 +67,17 @@ abbrev pub kept_of : List StepCall → List ℕ
 kept_of calls = kept_after [] (map on_buffer calls)
 
 -- What an answer delivers: as many bytes as it says, from the front of the memory; and the number of frames that it says.
-abbrev pub delivered_by : StepAnswer → List ℕ → List ℕ
-delivered_by (Refused n) left = []
-delivered_by (Delivered bytes frames kept) left = take bytes left
+abbrev pub delivered_by : Result StepRead Refusal → List ℕ → List ℕ
+delivered_by (Err n) left = []
+delivered_by (Ok read) left = take read.bytes left
 
 abbrev pub delivered_bytes : List StepCall → List ℕ
 delivered_bytes [] = []
 delivered_bytes (c ∷ cs) = delivered_by c.answer c.left ++ delivered_bytes cs
 
-abbrev pub counted_by : StepAnswer → ℕ
-counted_by (Refused n) = 0
-counted_by (Delivered bytes frames kept) = frames
+abbrev pub counted_by : Result StepRead Refusal → ℕ
+counted_by (Err n) = 0
+counted_by (Ok read) = read.frames
 
 abbrev pub counted_frames : List StepCall → ℕ
 counted_frames [] = 0
@@ -88,7 +90,7 @@ TooShort c = (length c.buffer < c.kept + c.read) ⊎ (length c.lent < c.kept + c
 -- Exactly then it is refused, with 1, and nothing changes.
 pub record StepRefusal (c : StepCall) : Type 0 where
   pub refused : IsRefused (says_of c.answer) ↔ TooShort c
-  pub number : TooShort c → c.answer ≡ Refused 1
+  pub number : TooShort c → c.answer ≡ Err ShortMemory
   pub buffer : TooShort c → LeftAlone c.buffer c.left_buffer
   pub memory : TooShort c → LeftAlone c.lent c.left
 
@@ -100,7 +102,7 @@ pub record StepReads (line : List Symbol) (c : StepCall) : Type 1 where
   pub kept : List ℕ
   pub rest : RestOf (line ++ brought_by c) kept
   pub most : length kept ≤ 211
-  pub answer : c.answer ≡ Delivered (length (joined new.frames)) (length new.frames) (length kept)
+  pub answer : c.answer ≡ step_gives (length (joined new.frames)) (length new.frames) (length kept)
   pub buffer : c.left_buffer ≡ over kept c.buffer
   pub memory : c.left ≡ over (joined new.frames) c.lent
 
@@ -184,7 +186,7 @@ step-reads line c h enough n = go (stepping h)
           kept = (step_reading c.kept c.read c.ended c.buffer).kept;
           rest = rw (same-reading c) n.rest;
           most = rest-most (take (c.kept + c.read) c.buffer) c.ended;
-          answer = a ∙ (λ i. Delivered (length (bytes i)) (count i) (length (step_reading c.kept c.read c.ended c.buffer).kept));
+          answer = a ∙ (λ i. step_gives (length (bytes i)) (count i) (length (step_reading c.kept c.read c.ended c.buffer).kept));
           buffer = b;
           memory = m ∙ ap (λ (l : List ℕ). over l c.lent) bytes;
         }

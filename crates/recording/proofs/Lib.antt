@@ -1,5 +1,4 @@
 pub mod Blocks
 pub mod ChainLaws
-pub mod MoveLaws
 pub mod Said
 pub mod StepLaws

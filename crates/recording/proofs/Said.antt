@@ -1,16 +1,17 @@
 -- What the papers say of the answers of a step, when it is refused, and that buffer and memory are then as they were.
-use Rattle.std.specs.Prelude.{ℕ, ◌+◌, ◌≤◌, ◌<◌, List, [], ◌∷◌, Bool, ◌⊎◌, length, leb}
+use Rattle.std.specs.Prelude.{ℕ, ◌+◌, ◌≤◌, ◌<◌, List, [], ◌∷◌, Bool, ◌⊎◌, length, leb, Err, Result, Ok}
+use Rattle.frame.specs.Refusals.{number_of}
+use Rattle.frame.specs.declared.refusal.Refusal.{Refusal}
+use Rattle.recording.specs.declared.StepRead.{StepRead}
 use Rattle.std.proofs.Common.{inl, inr, arith, leb-true, leb-false}
 use Rattle.laws.specs.Said.{Said, values, refusal, Refuses, refuses, answers}
 use Rattle.laws.specs.TestLaws.{pick_cases}
 use Rattle.recording.specs.Step.{StepOutcome, stepped, step_read}
-use Rattle.recording.specs.declared.StepAnswer.{StepAnswer}
-use Rattle.recording.specs.declared.StepAnswer.TheVariants.{Refused, Delivered}
 
 -- How many bytes and frames, and how many bytes are kept; or a refusal.
-abbrev pub step_said : StepAnswer → Said
-step_said (Refused n) = refusal n
-step_said (Delivered bytes frames kept) = values (bytes ∷ frames ∷ kept ∷ [])
+abbrev pub step_said : Result StepRead Refusal → Said
+step_said (Err n) = refusal (number_of n)
+step_said (Ok read) = values (read.bytes ∷ read.frames ∷ read.kept ∷ [])
 
 pub step-refuses : (kept read : ℕ) (ended : Bool) (buffer m : List ℕ)
     → let o = step_read kept read ended buffer m in

@@ -1,2 +1,3 @@
+pub mod Answer
 pub mod Step
 pub mod Chain

@@ -3,7 +3,8 @@
 -- changes neither a receiver, nor a meter, nor its readings, nor any memory lent. What each answer says, and which is a refusal, is given by the
 -- definitions that end in `Said`. Each operation's contract equates what it answers and leaves with the definition that stands here for it. The
 -- calls from C hand on to these operations.
-use Rattle.std.specs.Prelude.{ℕ, ◌+◌, ◌-◌, ◌^◌, ◌≤◌, ◌<◌, ◌≡◌, List, Bool, true, ◌↔◌, ◌⊎◌, length}
+use Rattle.frame.specs.declared.refusal.Refusal.{Refusal}
+use Rattle.std.specs.Prelude.{ℕ, ◌+◌, ◌-◌, ◌^◌, ◌≤◌, ◌<◌, ◌≡◌, List, Bool, true, ◌↔◌, ◌⊎◌, length, Err, Some}
 use Rattle.laws.specs.Memory.{LeftAlone}
 use Rattle.laws.specs.Said.{IsRefusal, Refuses}
 use Rattle.laws.specs.Words.{FirstFails}
@@ -28,7 +29,6 @@ use Rattle.item_decimal.specs.Decimal.{packing}
 use Rattle.item_decimal.proofs.Said.{packed_said, packing-refuses}
 use Rattle.item.specs.Table.{item_of}
 use Rattle.item.specs.declared.table.Item.{Item}
-use Rattle.item.specs.declared.table.Lookup.TheVariants.{Listed}
 use Rattle.energy.specs.Energies.{Rows}
 use Rattle.energy.specs.declared.Energies.{Energies}
 use Rattle.meter_counting.specs.Counting as counting
@@ -43,7 +43,6 @@ use Rattle.meter.proofs.Ranges.{InRanges}
 use Rattle.meter.specs.Host.{created, key_set, pulsed_by, settled_by}
 use Rattle.meter.specs.Answer.{answered}
 use Rattle.meter.proofs.Said.{frame_said, Whole, fresh-refused, key-refuses, pulse-refuses, settle-refuses, frame-refuses}
-use Rattle.meter.specs.declared.FrameAnswer.TheVariants as frames
 use Rattle.meter.specs.declared.Meter.{Meter}
 use Rattle.reader.specs.Allowed.{RequestSized}
 use Rattle.reader.specs.Building.{built}
@@ -119,17 +118,17 @@ pub record RefusalsChangeNothing : Type 0 where
   -- A frame put to a meter: where it is refused, `FrameIsRight` says. A value that is not written, and registers that take none.
   pub frame : (bytes : List ℕ) (m : Meter) (forward reverse : Rows) (memory : List ℕ)
       → let o = answered bytes m forward reverse memory in
-      Refuses {S = Meter × List ℕ} (frame_said o.answer.answer) ((n : ℕ) × (o.answer.answer ≡ frames.Refused n)) (m, memory) (o.answer.meter, o.memory)
+      Refuses {S = Meter × List ℕ} (frame_said o.answer.answer) ((n : Refusal) × (o.answer.answer ≡ Err n)) (m, memory) (o.answer.meter, o.memory)
   pub write_value : (identifier : ℕ) (address registers : List ℕ) (forward reverse : Rows) (m : List ℕ)
       → let o = value_written identifier address registers forward reverse m in Refuses (held_said o.answer) (HasRoom identifier m → ⊥) m o.memory
   pub with_value : (identifier : ℕ) (value registers : List ℕ)
-      → ((item : Item) (at : ℕ) → item_of identifier ≡ Listed item → location_of item.kind ≡ Register at → length value ≡ item.length → ⊥)
+      → ((item : Item) (at : ℕ) → item_of identifier ≡ Some item → location_of item.kind ≡ Register at → length value ≡ item.length → ⊥)
       → LeftAlone registers (registers_after identifier value registers)
   -- The reader's end.
   pub build : (request : Request) (m : List ℕ) → RequestSized request
       → let o = built request m in Refuses (built_said o.answer) (CannotBuild request m) m o.memory
   pub judge : (request : Request) (bytes m : List ℕ) → RequestSized request
-      → let o = judged request bytes m in Refuses (judgement_said o.answer) ((n : ℕ) × FirstFails (judge_words request bytes m) n) m o.memory
+      → let o = judged request bytes m in Refuses (judgement_said o.answer) ((n : Refusal) × FirstFails (judge_words request bytes m) n) m o.memory
   -- A replay: what stands at the front of the rest of a trace, frames put to a meter, the start, and a step, by `step_at`, by the walker's `step` or by
   -- `walk_from`. What comes back from a start that is refused is refused by every step with 16.
   pub trace-front : (rest : List ℕ)

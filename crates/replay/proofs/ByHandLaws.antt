@@ -1,5 +1,6 @@
 -- Records played by hand: whatever memory is lent, the calls come to what the records come to, and there always are such calls.
 use Rattle.std.specs.Prelude.{ℕ, ◌≤◌, ◌≡◌, List, [], ◌∷◌, ◌++◌, Bool, length, replicate}
+use Rattle.line.specs.Answer.{handed}
 use Rattle.std.proofs.Math.Path.{refl, ap}
 use Rattle.std.proofs.Common.{sym, subst, ◌∙◌, arith}
 use Rattle.std.proofs.lemmas.List.{length-replicate}
@@ -13,7 +14,6 @@ use Rattle.line_terms.specs.Places.{joined, frames_of}
 use Rattle.line_terms.proofs.FoundFrames.{AllFrames, scan-frames, found-behind, found-frames, cut-joined}
 use Rattle.line.specs.Receiver.{reading_with, keeping, delivered, called}
 use Rattle.line.proofs.Demand3.{ReceiverCall, delivered_by}
-use Rattle.line.specs.declared.Answer.TheVariants.{Delivered}
 use Rattle.line.specs.declared.Receiver.{Receiver}
 use Rattle.line.specs.declared.Received.{Received}
 use Rattle.energy.specs.Energies.{Rows}
@@ -100,7 +100,7 @@ unfolding heard_play delivered
 hears-same {s = s} {x = x} {c = c} {calls = calls} f h =
     let reading = reading_with s.receiver x in
     let e : outcome c.returned c.left ≡ delivered reading s.receiver c.lent = h.call ∙ heard-call f.received x c.lent h.room in
-    let answer : c.returned.answer ≡ Delivered (length (joined reading.frames)) (length reading.frames) =
+    let answer : c.returned.answer ≡ handed (length (joined reading.frames)) (length reading.frames) =
     ap (λ (o : Outcome Received). o.answer.answer) e in
     let receiver : c.returned.receiver ≡ keeping reading.kept s.receiver = ap (λ (o : Outcome Received). o.answer.receiver) e in
     let left : c.left ≡ over (joined reading.frames) c.lent = ap (λ (o : Outcome Received). o.memory) e in

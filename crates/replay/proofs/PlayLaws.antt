@@ -1,6 +1,9 @@
 -- Laws of playing a record: what the receiver delivers has at most 212 bytes, so that 8,192 bytes hold the lines of the replies; and what it delivers, put
 -- to the meter, is what the symbol comes to.
-use Rattle.std.specs.Prelude.{ℕ, ◌+◌, ◌*◌, ◌≤◌, ◌≡◌, refl, Bool, true, false, ◌&&◌, List, [], ◌∷◌, ◌++◌, map, length, take}
+use Rattle.frame.specs.declared.refusal.Refusal.{Refusal}
+use Rattle.std.specs.Prelude.{ℕ, ◌+◌, ◌*◌, ◌≤◌, ◌≡◌, refl, Bool, true, false, ◌&&◌, List, [], ◌∷◌, ◌++◌, map, length, take, Err}
+use Rattle.line.specs.Answer.{handed}
+use Rattle.replay_frames.specs.PutAnswer.{lines_put}
 use Rattle.std.proofs.Common.{arith, ◌∙◌, length-take}
 use Rattle.std.proofs.Math.Path.{ap}
 use Rattle.std.proofs.lemmas.Bool.{false≢true}
@@ -17,7 +20,6 @@ use Rattle.line_terms.proofs.FoundFrames.{cut-joined}
 use Rattle.line.specs.Receiver.{kept_bytes, within_range, reading_with, keeping, delivered, called}
 use Rattle.line.specs.declared.Receiver.{Receiver}
 use Rattle.line.specs.declared.Received.{Received}
-use Rattle.line.specs.declared.Answer.TheVariants.{Delivered}
 use Rattle.listing.specs.Lines.{lines_of}
 use Rattle.energy.specs.declared.Energies.{Energies}
 use Rattle.meter.specs.Meter.{MeterSized, within_ranges}
@@ -25,7 +27,6 @@ use Rattle.meter.specs.declared.Meter.{Meter}
 use Rattle.replay_frames.specs.Putting.{meter_after, replies_to, all_put, frames_put}
 use Rattle.replay_frames.proofs.PuttingLaws.{all-text}
 use Rattle.replay_frames.specs.declared.FramesPut.{FramesPut}
-use Rattle.replay_frames.specs.declared.PutAnswer.TheVariants.{Put, Refused as PutRefused}
 use Rattle.trace.specs.declared.TraceRecord.{TraceRecord}
 use Rattle.trace.specs.declared.TraceRecord.TheVariants.{Byte, Silence, Pulse, Key, Settle}
 use Rattle.replay.specs.Replay.{Play, state_of, is_within, heard_play, host_play, played, stepped_with, played_step}
@@ -84,7 +85,7 @@ text-fits Settle s within sized = omega arith
 pub record Puts (fs : List (List ℕ)) (m : Meter) (energies : Energies) (lent : List ℕ) (put : FramesPut) (left : List ℕ) : Type 0 where
   pub meter : put.meter ≡ meter_after fs m energies.forward energies.reverse
   pub answer : put.answer
-      ≡ Put (length (lines_of (replies_to fs m energies.forward energies.reverse))) (length (replies_to fs m energies.forward energies.reverse))
+      ≡ lines_put (length (lines_of (replies_to fs m energies.forward energies.reverse))) (length (replies_to fs m energies.forward energies.reverse))
   pub memory : left ≡ over (lines_of (replies_to fs m energies.forward energies.reverse)) lent
 
 pub frames-puts : {m : Meter} {energies : Energies} {memory left : List ℕ} {put : FramesPut} (bytes : List ℕ) →
@@ -108,7 +109,7 @@ module _ (x : Symbol) (r : Receiver) (lent : List ℕ) {received : Received} {fr
   unfolding called
   is_delivered = e ∙ rw (within, le-leb 212 (length lent) room)
 
-  pub call-says : received.answer ≡ Delivered (length (joined (reading_with r x).frames)) (length (reading_with r x).frames)
+  pub call-says : received.answer ≡ handed (length (joined (reading_with r x).frames)) (length (reading_with r x).frames)
   unfolding delivered
   call-says = ap (λ (o : Outcome Received). o.answer.answer) is_delivered
 
@@ -157,5 +158,5 @@ unfolding played_outcome lines_of
 quiet-outcome s m = refl
 
 -- Frames that are put are not refused.
-pub not-refused : {text lines n : ℕ} → Put text lines ≡ PutRefused n → ⊥
+pub not-refused : {text lines : ℕ} {n : Refusal} → lines_put text lines ≡ Err n → ⊥
 not-refused e = let z : ◌≡◌ {A = ℕ} 0 1 = cc in omega arith

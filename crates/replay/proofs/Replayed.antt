@@ -1,6 +1,8 @@
 -- Document 02, W1: "The replies and the meter at the end are those of the calls made by hand." One theorem over every trace, every good address and
 -- every list of steps from the start.
 use Rattle.std.specs.Prelude.{ℕ, ◌+◌, ◌≤◌, ◌≡◌, refl, List, [], ◌∷◌, ◌++◌, length, take, drop}
+use Rattle.frame.specs.declared.refusal.Refusal.TheVariants.{OutOfRange, ShortMemory}
+use Rattle.trace.specs.Front.{found_record}
 use Rattle.std.proofs.Common.{arith, sym, ap, subst, ◌∙◌, append-nil, append_assoc, length-append, length-drop, take-add}
 use Rattle.std.proofs.Math.Seq.{take-append_seam}
 use Rattle.laws.specs.All.{AllOf}
@@ -15,7 +17,6 @@ use Rattle.listing.specs.Lines.{lines_of}
 use Rattle.listing.proofs.LinesLaws.{lines-append}
 use Rattle.trace.specs.Records.{FieldsRight, record_bytes, written}
 use Rattle.trace.specs.Trace.{front_of}
-use Rattle.trace.specs.declared.Front.TheVariants.{Good as GoodRecord}
 use Rattle.trace.specs.declared.TraceRecord.{TraceRecord}
 use Rattle.trace.proofs.TraceLaws.{good-bytes, good-within, written-append}
 use Rattle.replay.specs.Replay.{started, stepped, played, stepped_with, Unplayed, played_all}
@@ -103,7 +104,7 @@ plays_after (c ∷ cs) = plays_by c.returned.answer + plays_after cs
 -- What holds of a step at a place of a trace: it is never refused with 16, and says and leaves what document 02's words are for it; one that played no
 -- record changed nothing.
 pub record StepIsRight (trace : List ℕ) (at : ℕ) (s : ReplayState) (c : StepCall) : Type 0 where
-  pub within : c.returned.answer ≡ Refused 16 → ⊥
+  pub within : c.returned.answer ≡ Refused OutOfRange → ⊥
   pub words : StepWords trace at s c.lent c.returned c.left
 
 -- What holds of a list of steps from the start of an address.
@@ -187,7 +188,7 @@ came-then {trace} {at} {to} {last} {s} {next} {after} {text} {more} a b =
 
 -- A good record at a place, played.
 came-one : {r : TraceRecord} {n : ℕ} (trace : List ℕ) (at : ℕ) (s : ReplayState) → Bytes trace → at ≤ length trace →
-    front_of (drop at trace) ≡ GoodRecord r n → Came trace at s (at + n) (lines_of (played r s).replies) 1 (length (played r s).replies) (played r s).state
+    front_of (drop at trace) ≡ found_record r n → Came trace at s (at + n) (lines_of (played r s).replies) 1 (length (played r s).replies) (played r s).state
 unfolding written
 came-one {r} {n} trace at s bytes within there =
     let good = good-bytes (drop at trace) (all_drop IsByte at trace bytes) there in
@@ -222,9 +223,9 @@ module _ {at : ℕ} {line : List Symbol} {s : ReplayState} (trace : List ℕ) (c
       still (Played text lines next) u a = absurd u
 
       go : Stepping trace at s c.lent c.returned c.left → CameBy
-      go (outside out a m) = still (Refused 16) tt a
+      go (outside out a m) = still (Refused OutOfRange) tt a
       go (ends w e a m) = still Done tt a
-      go (declines w e short a m) = still (Refused 1) tt a
+      go (declines w e short a m) = still (Refused ShortMemory) tt a
       go (bad w e room a m) = still (BadRecord _ at) tt a
       go (plays {r = r} w e room a m) = rw (a, m, take-append_seam (lines_of (played r s).replies) _) (came-one trace at s bytes within e)
 

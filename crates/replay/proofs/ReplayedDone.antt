@@ -1,5 +1,7 @@
 -- A trace of good records, stepped with memory enough: as many steps as it has records play one each, and every step after them answers done.
-use Rattle.std.specs.Prelude.{ℕ, ◌≤◌, ◌<◌, ◌≡◌, refl, List, [], ◌∷◌, ◌++◌, length, drop}
+use Rattle.trace.proofs.FoundLaws.{found_same}
+use Rattle.std.specs.Prelude.{ℕ, ◌≤◌, ◌<◌, ◌≡◌, refl, List, [], ◌∷◌, ◌++◌, length, drop, None, Ok}
+use Rattle.trace.specs.Front.{found_record}
 use Rattle.std.proofs.Common.{arith, sym, subst, ◌∙◌, true≢false, drop_at, drop-drop}
 use Rattle.std.proofs.Math.Path.{ap}
 use Rattle.laws.specs.All.{AllOf}
@@ -10,7 +12,6 @@ use Rattle.item_address.specs.Address.{Good}
 use Rattle.trace.specs.Trace.{front_of}
 use Rattle.trace.specs.Records.{FieldsRight, record_bytes, written}
 use Rattle.trace.specs.declared.TraceRecord.{TraceRecord}
-use Rattle.trace.specs.declared.Front.TheVariants as front
 use Rattle.trace.proofs.TraceLaws.{front-written}
 use Rattle.replay.specs.Replay.{started, stepped, played, Unplayed}
 use Rattle.replay.proofs.StateLaws.{Fit, fit-within, start-fit, played-fit}
@@ -47,7 +48,7 @@ module _ {at : ℕ} {line : List Symbol} {s : ReplayState} (trace : List ℕ) (c
   unfolding written
   advances r rs right there = go (stepping h)
     where
-      good : front_of (drop at trace) ≡ front.Good r (length (record_bytes r))
+      good : front_of (drop at trace) ≡ found_record r (length (record_bytes r))
       good = ap front_of there ∙ front-written r (written rs) right
 
       go : Stepping trace at s c.lent c.returned c.left → Advances trace at s c r rs
@@ -56,8 +57,9 @@ module _ {at : ℕ} {line : List Symbol} {s : ReplayState} (trace : List ℕ) (c
       go (declines w e short a m) = absurd (omega (arith, enough))
       go (bad w e room a m) = absurd (let z : ◌≡◌ {A = ℕ} 0 1 = cc (good, e) in omega arith)
       go (plays {r = x} {n = n} w e room a m) =
-          let same : x ≡ r = cc (good, e) in
-          let size : n ≡ length (record_bytes r) = cc (good, e) in
+          let found = found_same (sym e ∙ good) in
+          let same : x ≡ r = found.0 in
+          let size : n ≡ length (record_bytes r) = found.1 in
           record {
             plays = λ u. subst (λ (t : Stepped). Unplayed t.answer) a u;
             left = rw a (sym (drop-drop n at trace) ∙ ap (drop n) there ∙ drop_at (record_bytes r) (written rs) n (sym size));
@@ -68,7 +70,7 @@ module _ {at : ℕ} {line : List Symbol} {s : ReplayState} (trace : List ℕ) (c
   unfolding front_of
   rests there = go (stepping h)
     where
-      end : front_of (drop at trace) ≡ front.Ended
+      end : front_of (drop at trace) ≡ Ok None
       end = ap front_of there
 
       go : Stepping trace at s c.lent c.returned c.left → Rests trace at s c

@@ -1,6 +1,7 @@
 -- What the papers say of the answers of the replay, when it refuses, and that state and memory are then as they were; and where the host's call of a
 -- record calls nothing.
-use Rattle.std.specs.Prelude.{ℕ, ◌<◌, ◌≡◌, refl, ◌↔◌, ◌⊎◌, List, [], ◌∷◌, length, drop}
+use Rattle.std.specs.Prelude.{ℕ, ◌<◌, ◌≡◌, refl, ◌↔◌, ◌⊎◌, List, [], ◌∷◌, length, drop, None, Ok}
+use Rattle.frame.specs.Refusals.{number_of}
 use Rattle.std.proofs.Common.{arith, sym, ap, ◌∙◌, inl, inr}
 use Rattle.std.proofs.lemmas.Bool.{false≢true}
 use Rattle.std.proofs.Math.Decide.{dec_lt}
@@ -14,7 +15,6 @@ use Rattle.trace.specs.Trace.{front_of}
 use Rattle.trace.proofs.Said.{NoGoodRecord, front-refuses}
 use Rattle.trace.specs.declared.TraceRecord.{TraceRecord}
 use Rattle.trace.specs.declared.TraceRecord.TheVariants.{Byte, Silence, Pulse, Key, Settle}
-use Rattle.trace.specs.declared.Front.TheVariants as front
 use Rattle.replay.specs.Replay.{state_of, started, host_call, stepped, stepped_with}
 use Rattle.replay.proofs.StepLaws.{Stepping, outside, ends, declines, bad, plays, stepping, bad_no_end}
 use Rattle.replay.proofs.StepWords.{InRanges, within-iff, ended-iff}
@@ -27,8 +27,8 @@ use Rattle.replay.specs.declared.StepAnswer.TheVariants.{Done, Refused, BadRecor
 -- next place.
 abbrev pub step_said : StepAnswer → Said
 step_said Done = values []
-step_said (Refused n) = refusal n
-step_said (BadRecord n place) = refusal_at n place
+step_said (Refused n) = refusal (number_of n)
+step_said (BadRecord n place) = refusal_at (number_of n) place
 step_said (Played text lines next) = values (text ∷ lines ∷ next ∷ [])
 
 -- A replay is refused when it is started exactly where the address is not good; what comes back is then out of its ranges.
@@ -54,7 +54,7 @@ step-refuses trace at s m = go (stepping refl)
         left ≡ memory → P (stepped_with after answer) memory → P returned left
     is a l p = rw (a, l) p
 
-    before : (front_of (drop at trace) ≡ front.Ended → ⊥) → at < length trace
+    before : (front_of (drop at trace) ≡ Ok None → ⊥) → at < length trace
     before e = elim (dec_lt at (length trace)) [ yes l ↦ l | no l ↦ absurd (e ((ended-iff trace at).1 (omega arith))) ]
 
     go : Stepping trace at s m (stepped trace at s m).answer (stepped trace at s m).memory →

@@ -1,10 +1,10 @@
 -- Document 02's words on the start: "a fresh receiver and a fresh meter of a given address", and 8 for a bad one.
-use Rattle.std.specs.Prelude.{ℕ, ◌≡◌, refl, List, replicate}
+use Rattle.std.specs.Prelude.{ℕ, ◌≡◌, refl, List, replicate, Err, Ok}
+use Rattle.frame.specs.declared.refusal.Refusal.TheVariants.{BadArgument}
 use Rattle.item_address.specs.Address.{Good}
 use Rattle.line.specs.Receiver.{fresh}
 use Rattle.meter.specs.Host.{created}
 use Rattle.meter.proofs.FreshMeter.{fresh_is_right}
-use Rattle.meter_counting.specs.declared.HostAnswer.TheVariants.{Done, Refused}
 use Rattle.replay.specs.Replay.{started}
 use Rattle.replay.specs.declared.Started.{Started}
 
@@ -16,8 +16,8 @@ pub record StartWords (address : List ℕ) (s : Started) : Type 0 where
   pub meter : s.state.meter ≡ (created address).meter
   pub energies : s.state.energies ≡ (created address).energies
   pub at_first : s.at ≡ 0
-  pub made : Good address → s.answer ≡ Done
-  pub refused : (Good address → ⊥) → s.answer ≡ Refused 8
+  pub made : Good address → s.answer ≡ Ok tt
+  pub refused : (Good address → ⊥) → s.answer ≡ Err BadArgument
 
 -- The start of any address.
 pub start-words : (address : List ℕ) → StartWords address (started address)

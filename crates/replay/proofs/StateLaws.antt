@@ -1,6 +1,7 @@
 -- A state that records have led to: its receiver has heard a line, and its meter is within its ranges. Every record played keeps it so, and what a
 -- byte or a silence puts to the meter are the frames that became certain with it.
 use Prim.Native.Nat.{ℕ, ◌≤◌}
+use Rattle.line.specs.Answer.{handed}
 use Rattle.std.specs.Prelude.{◌≡◌, Bool, true, length}
 use Rattle.std.proofs.Math.Path.{refl}
 use Rattle.std.proofs.Common.{sym, arith, le-leb}
@@ -16,7 +17,6 @@ use Rattle.line_terms.proofs.Turns.{brings-reads}
 use Rattle.line.specs.Receiver.{reading_with, keeping, delivered, called}
 use Rattle.line.proofs.CallLaws.{HasReceived, fresh-received, received-within, Answers, ignores, delivers, answers}
 use Rattle.line.specs.declared.Receiver.{Receiver}
-use Rattle.line.specs.declared.Answer.TheVariants.{Delivered}
 use Rattle.item_address.specs.Address.{Good}
 use Rattle.meter.specs.Meter.{MeterSized, within_ranges, fresh_meter}
 use Rattle.meter.proofs.Ranges.{InRanges, within-ranges}
@@ -76,7 +76,7 @@ module _ {line : List Symbol} {s : ReplayState} (f : Fit line s) (x : Symbol) wh
       go : Answers line x s.receiver memory
           (record {
             receiver = keeping reading.kept s.receiver;
-            answer = Delivered (length (joined reading.frames)) (length reading.frames);
+            answer = handed (length (joined reading.frames)) (length reading.frames);
           })
           (over (joined reading.frames) memory) →
           HasReceived (line ++ (x ∷ [])) (keeping reading.kept s.receiver)

@@ -1,6 +1,10 @@
 -- Document 02's words on a step: exactly when it is refused, and with which number, when it is done, and when it plays a record. What stands at a place
 -- of a trace is in words in `trace` (`front-words`).
-use Rattle.std.specs.Prelude.{ℕ, ◌+◌, ◌≤◌, ◌<◌, ◌≡◌, refl, Bool, true, false, ◌&&◌, ◌↔◌, ◌⊎◌, List, [], length, drop}
+use Rattle.trace.proofs.FoundLaws.{found_same}
+use Rattle.frame.specs.declared.refusal.Refusal.{Refusal}
+use Rattle.std.specs.Prelude.{ℕ, ◌+◌, ◌≤◌, ◌<◌, ◌≡◌, refl, Bool, true, false, ◌&&◌, ◌↔◌, ◌⊎◌, List, [], length, drop, Err, None, Ok}
+use Rattle.frame.specs.declared.refusal.Refusal.TheVariants.{OutOfRange, ShortMemory}
+use Rattle.trace.specs.Front.{found_record}
 use Rattle.std.proofs.Common.{arith, sym, ap, subst, ◌∙◌, inl, inr, length-drop, drop_of_length-le}
 use Rattle.std.proofs.Math.Decide.{dec_lt}
 use Rattle.std.proofs.lemmas.Bool.{false≢true}
@@ -13,7 +17,6 @@ use Rattle.meter.proofs.Ranges as meter
 use Rattle.trace.specs.Trace.{front_of}
 use Rattle.trace.proofs.FrontCases.{FrontCase, ended, case_front, front_case}
 use Rattle.trace.specs.declared.TraceRecord.{TraceRecord}
-use Rattle.trace.specs.declared.Front.TheVariants as front
 use Rattle.replay.specs.Replay.{is_within, stepped, played, stepped_with, Unplayed}
 use Rattle.replay.proofs.StepLaws.{Stepping, outside, ends, declines, bad, plays, stepping, good_no_end, bad_no_end}
 use Rattle.replay.specs.declared.ReplayState.{ReplayState}
@@ -42,54 +45,57 @@ within-iff s = (
     both false b p q e = absurd (false≢true e)
 
 -- Nothing stands at a place exactly where it is at or past the end.
-pub ended-iff : (trace : List ℕ) (at : ℕ) → (front_of (drop at trace) ≡ front.Ended) ↔ (length trace ≤ at)
+pub ended-iff : (trace : List ℕ) (at : ℕ) → (front_of (drop at trace) ≡ Ok None) ↔ (length trace ≤ at)
 ended-iff trace at =
     (λ e. omega (arith, length-drop at trace, ap length (empty (front_case e))), λ past. ap front_of (drop_of_length-le trace past) ∙ case_front ended)
   where
-    empty : {rest : List ℕ} → FrontCase rest front.Ended → rest ≡ []
+    empty : {rest : List ℕ} → FrontCase rest (Ok None) → rest ≡ []
     empty ended = refl
 
 -- What a step says and leaves, by its trace, its place, its state and its memory.
 pub record StepWords (trace : List ℕ) (at : ℕ) (s : ReplayState) (m : List ℕ) (returned : Stepped) (left : List ℕ) : Type 0 where
   -- 16 before anything else
-  pub sixteen : (returned.answer ≡ Refused 16) ↔ (InRanges s → ⊥)
+  pub sixteen : (returned.answer ≡ Refused OutOfRange) ↔ (InRanges s → ⊥)
   -- at or past the end done, short memory or not
   pub done : (returned.answer ≡ Done) ↔ (InRanges s × (length trace ≤ at))
   -- then 1 under 8,192 bytes
-  pub one : (returned.answer ≡ Refused 1) ↔ (InRanges s × (at < length trace) × (length m < 8192))
-  pub others : (n : ℕ) → returned.answer ≡ Refused n → (n ≡ 16) ⊎ (n ≡ 1)
+  pub one : (returned.answer ≡ Refused ShortMemory) ↔ (InRanges s × (at < length trace) × (length m < 8192))
+  pub others : (n : Refusal) → returned.answer ≡ Refused n → (n ≡ OutOfRange) ⊎ (n ≡ ShortMemory)
   -- then 9 or 10, by what stands there, with the place where the record begins
-  pub bad-record : (n place : ℕ) →
-      (returned.answer ≡ BadRecord n place) ↔ (InRanges s × (8192 ≤ length m) × (place ≡ at) × (front_of (drop at trace) ≡ front.Refused n))
+  pub bad-record : (n : Refusal) (place : ℕ) →
+      (returned.answer ≡ BadRecord n place) ↔ (InRanges s × (8192 ≤ length m) × (place ≡ at) × (front_of (drop at trace) ≡ Err n))
   -- an answer that says that no record was played has changed nothing
   pub unplayed : Unplayed returned.answer → (returned.state ≡ s) × (left ≡ m)
   -- else a record is played: so many bytes and lines are its replies', the next place is behind it, and the memory beyond the lines stays as it was
-  pub plays-one : (r : TraceRecord) (n : ℕ) → InRanges s → 8192 ≤ length m → front_of (drop at trace) ≡ front.Good r n →
+  pub plays-one : (r : TraceRecord) (n : ℕ) → InRanges s → 8192 ≤ length m → front_of (drop at trace) ≡ found_record r n →
       (returned ≡ stepped_with (played r s).state (Played (length (lines_of (played r s).replies)) (length (played r s).replies) (at + n)))
       × (left ≡ over (lines_of (played r s).replies) m)
 
 -- Answers that differ.
 module _ {A : Type 0} {answer : StepAnswer} where
-  no_done : {n : ℕ} → answer ≡ Done → answer ≡ Refused n → A
+  no_done : {n : Refusal} → answer ≡ Done → answer ≡ Refused n → A
   no_done a b = let z : ◌≡◌ {A = ℕ} 0 1 = cc in absurd (omega arith)
 
-  no_bad : {n k place : ℕ} → answer ≡ BadRecord k place → answer ≡ Refused n → A
+  no_bad : {place : ℕ} {n : Refusal} {k : Refusal} → answer ≡ BadRecord k place → answer ≡ Refused n → A
   no_bad a b = let z : ◌≡◌ {A = ℕ} 0 1 = cc in absurd (omega arith)
 
-  no_bad_done : {k place : ℕ} → answer ≡ BadRecord k place → answer ≡ Done → A
+  no_bad_done : {place : ℕ} {k : Refusal} → answer ≡ BadRecord k place → answer ≡ Done → A
   no_bad_done a b = let z : ◌≡◌ {A = ℕ} 0 1 = cc in absurd (omega arith)
 
-  no_played : {text lines next n : ℕ} → answer ≡ Played text lines next → answer ≡ Refused n → A
+  no_played : {text lines next : ℕ} {n : Refusal} → answer ≡ Played text lines next → answer ≡ Refused n → A
   no_played a b = let z : ◌≡◌ {A = ℕ} 0 1 = cc in absurd (omega arith)
 
   no_played_done : {text lines next : ℕ} → answer ≡ Played text lines next → answer ≡ Done → A
   no_played_done a b = let z : ◌≡◌ {A = ℕ} 0 1 = cc in absurd (omega arith)
 
-  no_played_bad : {text lines next k place : ℕ} → answer ≡ Played text lines next → answer ≡ BadRecord k place → A
+  no_played_bad : {text lines next place : ℕ} {k : Refusal} → answer ≡ Played text lines next → answer ≡ BadRecord k place → A
   no_played_bad a b = let z : ◌≡◌ {A = ℕ} 0 1 = cc in absurd (omega arith)
 
-same_number : {answer : StepAnswer} {n k : ℕ} → answer ≡ Refused n → answer ≡ Refused k → n ≡ k
+same_number : {answer : StepAnswer} {n : Refusal} {k : Refusal} → answer ≡ Refused n → answer ≡ Refused k → n ≡ k
 same_number a b = cc
+
+short-apart : {A : Type 0} → ShortMemory ≡ OutOfRange → A
+short-apart e = let z : ◌≡◌ {A = ℕ} 0 1 = cc in absurd (omega arith)
 
 -- Every step, in any state and at any place.
 pub step_words : (trace : List ℕ) (at : ℕ) (s : ReplayState) (m : List ℕ) (returned : Stepped) (left : List ℕ) →
@@ -110,7 +116,7 @@ step_words trace at s m returned left h = go (stepping h)
         record {
           sixteen = (λ _ w. out_of out w, λ _. answers a);
           done = (λ d. no_done d (answers a), λ (w, past). out_of out w);
-          one = (λ r. absurd (omega (arith, same_number (answers a) r)), λ (w, before, short). out_of out w);
+          one = (λ r. short-apart (sym (same_number (answers a) r)), λ (w, before, short). out_of out w);
           others = λ n r. inl (same_number r (answers a));
           bad-record = λ n place. (λ b. no_bad b (answers a), λ (w, room, here, there). out_of out w);
           unplayed = λ u. (ap (λ (r : Stepped). r.state) a, l);
@@ -128,7 +134,7 @@ step_words trace at s m returned left h = go (stepping h)
         }
     go (declines w e short a l) =
         record {
-          sixteen = (λ r. absurd (omega (arith, same_number (answers a) r)), λ none. absurd (none (ranges w)));
+          sixteen = (λ r. short-apart (same_number (answers a) r), λ none. absurd (none (ranges w)));
           done = (λ d. no_done d (answers a), λ (v, past). absurd (e ((ended-iff trace at).1 past)));
           one = (λ _. (ranges w, before, short), λ _. answers a);
           others = λ n r. inr (same_number r (answers a));
@@ -163,5 +169,5 @@ step_words trace at s m returned left h = go (stepping h)
             λ (v, roomy, here, there). let z : ◌≡◌ {A = ℕ} 0 1 = cc (e, there) in absurd (omega arith),
           );
           unplayed = λ u. absurd (subst (λ (t : Stepped). Unplayed t.answer) a u);
-          plays-one = λ r n v roomy there. let same : r₁ ≡ r = cc (e, there) in let size : n₁ ≡ n = cc (e, there) in rw (← same, ← size) (a, l);
+          plays-one = λ r n v roomy there. let found = found_same (sym e ∙ there) in let same : r₁ ≡ r = found.0 in let size : n₁ ≡ n = found.1 in rw (← same, ← size) (a, l);
         }

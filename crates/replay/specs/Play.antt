@@ -1,10 +1,11 @@
 -- What the functions that play a record answer, in the terms of `Replay`.
-use Rattle.std.specs.Prelude.{ℕ, ◌*◌, ◌≤◌, ◌≡◌, List, true, length, take}
+use Rattle.std.specs.Prelude.{ℕ, ◌*◌, ◌≤◌, ◌≡◌, List, true, length, take, Err, Result, Ok}
+use Rattle.frame.specs.declared.refusal.Refusal.{Refusal}
+use Rattle.line.specs.Answer.{handed}
+use Rattle.line.specs.declared.Delivered.{Delivered}
 use Rattle.laws.specs.Memory.{Outcome, outcome, over}
 use Rattle.frame.specs.EndToEnd.{cut}
 use Rattle.line.specs.declared.Receiver.{Receiver}
-use Rattle.line.specs.declared.Answer.{Answer}
-use Rattle.line.specs.declared.Answer.TheVariants as line
 use Rattle.listing.specs.Lines.{lines_of}
 use Rattle.energy.specs.declared.Energies.{Energies}
 use Rattle.meter.specs.Meter.{within_ranges}
@@ -29,15 +30,15 @@ pub record HasRoom (bytes : ℕ) (m : Meter) (energies : Energies) (frames memor
   pub size : bytes ≤ length frames
   pub room : 35 * bytes ≤ length memory
 
-abbrev pub CanPut : Answer → Meter → Energies → List ℕ → List ℕ → Type 0
-CanPut (line.Refused n) m energies frames memory = Unit
-CanPut (line.Delivered bytes count) m energies frames memory = HasRoom bytes m energies frames memory
+abbrev pub CanPut : Result Delivered Refusal → Meter → Energies → List ℕ → List ℕ → Type 0
+CanPut (Err n) m energies frames memory = Unit
+CanPut (Ok d) m energies frames memory = HasRoom d.bytes m energies frames memory
 
 -- What an answer of the receiver comes to, put to the meter.
-abbrev pub delivered_play : Answer → Receiver → Meter → Energies → List ℕ → Play
-delivered_play (line.Refused n) r m energies frames = host_play (state_of r m energies)
-delivered_play (line.Delivered bytes count) r m energies frames =
-    let fs = cut (take bytes frames) in
+abbrev pub delivered_play : Result Delivered Refusal → Receiver → Meter → Energies → List ℕ → Play
+delivered_play (Err n) r m energies frames = host_play (state_of r m energies)
+delivered_play (Ok d) r m energies frames =
+    let fs = cut (take d.bytes frames) in
     record {
       state = state_of r (meter_after fs m energies.forward energies.reverse) energies;
       frames = fs;

@@ -1,8 +1,11 @@
 -- Document 02, W1: a trace played record by record into a fresh receiver and a fresh meter.
-use Rattle.std.specs.Prelude.{ℕ, ◌+◌, List, [], ◌∷◌, ◌++◌, Bool, ◌&&◌, length, drop, leb}
+use Rattle.std.specs.Prelude.{ℕ, ◌+◌, List, [], ◌∷◌, ◌++◌, Bool, ◌&&◌, length, drop, leb, Err, None, Ok, Option, Result, Some}
+use Rattle.frame.specs.declared.refusal.Refusal.{Refusal}
+use Rattle.frame.specs.declared.refusal.Refusal.TheVariants.{OutOfRange, ShortMemory}
+use Rattle.trace.specs.Front.{found_record}
+use Rattle.trace.specs.declared.RecordFound.{RecordFound}
 use Rattle.laws.specs.Memory.{Outcome, outcome, over}
 use Rattle.laws.specs.Test.{pick}
-use Rattle.frame.specs.Refusals.{short_memory, out_of_range}
 use Rattle.line_terms.specs.Line.{Symbol, byte, silence}
 use Rattle.line_terms.specs.Places.{frames_of}
 use Rattle.line.specs.Receiver.{fresh, within_range, reading_with, keeping}
@@ -17,8 +20,6 @@ use Rattle.replay_frames.specs.Putting.{meter_after, replies_to}
 use Rattle.trace.specs.Trace.{front_of}
 use Rattle.trace.specs.declared.TraceRecord.{TraceRecord}
 use Rattle.trace.specs.declared.TraceRecord.TheVariants as records
-use Rattle.trace.specs.declared.Front.{Front}
-use Rattle.trace.specs.declared.Front.TheVariants as front
 use Rattle.replay.specs.declared.ReplayState.{ReplayState}
 use Rattle.replay.specs.declared.Started.{Started}
 use Rattle.replay.specs.declared.Stepped.{Stepped}
@@ -111,13 +112,13 @@ played_step p next m =
 
 -- By what stands at the place: done at the end, whatever the memory; else 1 under 8,192 bytes of memory, then 9 or 10 with the place, else the
 -- record is played.
-abbrev pub at_front : Front → ℕ → ReplayState → List ℕ → Outcome Stepped
-at_front front.Ended at s m = outcome (stepped_with s Done) m
-at_front (front.Refused n) at s m =
-    pick (leb 8192 (length m)) (outcome (stepped_with s (BadRecord n at)) m) (outcome (stepped_with s (Refused short_memory)) m)
-at_front (front.Good r n) at s m = pick (leb 8192 (length m)) (played_step (played r s) (at + n) m) (outcome (stepped_with s (Refused short_memory)) m)
+abbrev pub at_front : Result (Option RecordFound) Refusal → ℕ → ReplayState → List ℕ → Outcome Stepped
+at_front (Ok None) at s m = outcome (stepped_with s Done) m
+at_front (Err n) at s m =
+    pick (leb 8192 (length m)) (outcome (stepped_with s (BadRecord n at)) m) (outcome (stepped_with s (Refused ShortMemory)) m)
+at_front (Ok (Some f)) at s m = pick (leb 8192 (length m)) (played_step (played f.found s) (at + f.length) m) (outcome (stepped_with s (Refused ShortMemory)) m)
 
 -- The outcome of a step at a place of a trace: 16 before anything else.
 unfoldable pub stepped : List ℕ → ℕ → ReplayState → List ℕ → Outcome Stepped
 stepped trace at s m =
-    pick (is_within s) (at_front (front_of (drop at trace)) at s m) (outcome (stepped_with s (Refused out_of_range)) m)
+    pick (is_within s) (at_front (front_of (drop at trace)) at s m) (outcome (stepped_with s (Refused OutOfRange)) m)

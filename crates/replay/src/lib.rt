@@ -11,12 +11,11 @@ ghost use Rattle.laws.specs.Memory.{outcome};
 ghost use Rattle.replay.specs.Replay.{started, is_within, stepped_with, stepped};
 
 use energy::Energies;
-use frame::refusal::{OUT_OF_RANGE, SHORT_MEMORY};
+use frame::refusal::Refusal;
 use line::Receiver;
-use meter::Meter;
-use meter_counting::HostAnswer;
-use play::play;
-use trace::{Front, record_at};
+use meter::{Created, Meter};
+use play::{Played, play};
+use trace::record_at;
 
 // How many bytes of memory a step is lent at the least.
 pub const STEP_MEMORY: usize = 8192;
@@ -34,7 +33,7 @@ pub struct ReplayState {
 pub struct Started {
     pub state: ReplayState,
     pub at: usize,
-    pub answer: HostAnswer,
+    pub answer: Result<(), Refusal>,
 }
 
 // The answer to a step.
@@ -42,11 +41,11 @@ pub struct Started {
 pub enum StepAnswer {
     // The place is at or past the end of the trace; nothing changed.
     Done,
-    // A refusal, by the papers' number: nothing changed.
-    Refused(u8),
-    // No good record begins at this place, by document 02's number; nothing changed.
+    // A refusal: nothing changed.
+    Refused(Refusal),
+    // No good record begins at this place; nothing changed.
     BadRecord {
-        refusal: u8,
+        refusal: Refusal,
         place: usize,
     },
     // One record is played: how many bytes of text, and how many lines, stand at the front of the output buffer, and the place of the next record.
@@ -68,14 +67,14 @@ pub struct Stepped {
 pub fn start(address: [u8; 6]) -> Started
     ensures { result ≡ started address }
 {
-    let created = Meter::fresh(address);
-    let receiver = Receiver::new();
-    let meter = created.meter;
-    let energies = created.energies;
-    let answer = created.answer;
+    let Created {
+        meter,
+        energies,
+        answer,
+    } = Meter::fresh(address);
     Started {
         state: ReplayState {
-            receiver,
+            receiver: Receiver::new(),
             meter,
             energies,
         },
@@ -85,18 +84,16 @@ pub fn start(address: [u8; 6]) -> Started
 }
 
 // Whether the receiver, and the meter with its readings, are within their ranges: every step refuses with 16 a state that is not.
+#[tactic(auto, unfolding(crate::specs::Replay::is_within))]
 pub fn is_within(state: ReplayState) -> bool
     ensures { result ≡ is_within state }
 {
-    let receiver = state.receiver;
-    let count = receiver.count;
-    let kept = receiver.kept;
-    if !line_verdict::within_range(&kept, count) {
-        return false;
-    }
-    let meter = state.meter;
-    let energies = state.energies;
-    meter.is_within_ranges(energies.forward_rows(), energies.reverse_rows())
+    let ReplayState {
+        receiver,
+        meter,
+        energies,
+    } = state;
+    line_verdict::within_range(&receiver.kept, receiver.count) && meter.is_within_ranges(energies)
 }
 
 // A step that played nothing: the state as it was.
@@ -113,29 +110,25 @@ pub fn step_at(trace: &[u8], at: usize, state: ReplayState, out: &mut [u8]) -> S
     ensures { outcome result out.new ≡ stepped trace.now at state out.old }
 {
     if !is_within(state) {
-        return unplayed(state, StepAnswer::Refused(OUT_OF_RANGE));
+        return unplayed(state, StepAnswer::Refused(Refusal::OutOfRange));
     }
     if trace.len() <= at {
         return unplayed(state, StepAnswer::Done);
     }
     if out.len() < STEP_MEMORY {
-        return unplayed(state, StepAnswer::Refused(SHORT_MEMORY));
+        return unplayed(state, StepAnswer::Refused(Refusal::ShortMemory));
     }
-    let front = record_at(trace, at);
-    match front {
-        Front::Ended => unplayed(state, StepAnswer::Done),
-        Front::Refused(refusal) => unplayed(state, StepAnswer::BadRecord { refusal, place: at }),
-        Front::Good { found, length } => {
-            let played = play(state, found, out);
-            let text = played.text;
-            let lines = played.lines;
-            let state = played.state;
+    match record_at(trace, at) {
+        Ok(None) => unplayed(state, StepAnswer::Done),
+        Err(refusal) => unplayed(state, StepAnswer::BadRecord { refusal, place: at }),
+        Ok(Some(record)) => {
+            let Played { state, text, lines } = play(state, record.found, out);
             Stepped {
                 state,
                 answer: StepAnswer::Played {
                     text,
                     lines,
-                    next: at + length,
+                    next: at + record.length,
                 },
             }
         }

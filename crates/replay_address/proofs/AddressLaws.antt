@@ -1,6 +1,7 @@
 -- The address of twelve digits in words: exactly twelve digits are an address, and its bytes are packed decimal of the number that they spell.
-use Rattle.std.specs.Prelude.{ℕ, suc, ◌+◌, ◌*◌, ◌/◌, ◌%◌, ◌≤◌, ◌<◌, ◌≡◌, refl, List, [], ◌∷◌, true, ◌↔◌, length, drop, get_or, eqb}
-use Rattle.std.proofs.Common.{sym, ap, ◌∙◌, arith, drop_of_length-le, drop-cons, eqb-true, eq-eqb}
+use Rattle.laws.specs.ResultLaws.{some_same}
+use Rattle.std.specs.Prelude.{ℕ, suc, ◌+◌, ◌*◌, ◌/◌, ◌%◌, ◌≤◌, ◌<◌, ◌≡◌, refl, List, [], ◌∷◌, true, ◌↔◌, length, drop, get_or, eqb, Option, Some, None}
+use Rattle.std.proofs.Common.{sym, ap, ◌∙◌, arith, drop_of_length-le, drop-cons, eqb-true, eq-eqb, subst}
 use Rattle.std.proofs.lemmas.Bool.{false≢true}
 use Rattle.std.proofs.Math.Bool.{and-eq-true_iff}
 use Rattle.laws.specs.All.{all_of, AllOf}
@@ -10,7 +11,6 @@ use Rattle.item_address.specs.Address.{Good}
 use Rattle.item_decimal.specs.Decimal.{Decimal, digits, low_digits, unpacked, packed}
 use Rattle.item_decimal.proofs.DecimalLaws.{packed-unpacked}
 use Rattle.replay_address.specs.Digits.{is_digit, worth, spelled, spelled_from, IsDigit, digit-iff}
-use Rattle.replay_address.specs.declared.ReadAddress.{ReadAddress}
 use Rattle.replay_address.specs.Address.{pair_of, pair_at, address_bytes, is_address, address_read}
 
 -- Twelve bytes, each a digit.
@@ -114,12 +114,16 @@ spells-good {text} {address} s = (
 )
 
 -- What is read is an address exactly where the text is twelve digits, and then it is the address that they spell, good but for twelve
--- nines; else it is six zeros.
-pub record AddressReads (text : List ℕ) (read : ReadAddress) : Type 0 where
-  pub exactly : (read.found ≡ true) ↔ TwelveDigits text
-  pub spells : read.found ≡ true → Spells text read.address
-  pub good : read.found ≡ true → (Good read.address ↔ (spelled text ≡ 999999999999 → ⊥))
-  pub zeros : (TwelveDigits text → ⊥) → read.address ≡ 0 ∷ 0 ∷ 0 ∷ 0 ∷ 0 ∷ 0 ∷ []
+-- nines; else nothing is.
+pub record AddressReads (text : List ℕ) (read : Option (List ℕ)) : Type 0 where
+  pub exactly : ((address : List ℕ) × (read ≡ Some address)) ↔ TwelveDigits text
+  pub spells : (address : List ℕ) → read ≡ Some address → Spells text address
+  pub good : (address : List ℕ) → read ≡ Some address → (Good address ↔ (spelled text ≡ 999999999999 → ⊥))
+  pub none : (TwelveDigits text → ⊥) → read ≡ None
+
+-- No address is none.
+pub none_read : {A : Type 0} {address : List ℕ} → ◌≡◌ {A = Option (List ℕ)} None (Some address) → A
+none_read e = let z : ◌≡◌ {A = ℕ} 0 1 = cc in absurd (omega arith)
 
 pub address-reads : (text : List ℕ) → AddressReads text (address_read text)
 unfolding address_read
@@ -129,14 +133,14 @@ address-reads text =
     let digits = (address-iff text).0 yes in
     let spelling = address-spells text digits in
     record {
-      exactly = (λ found. digits, λ all. refl);
-      spells = λ found. spelling;
-      good = λ found. spells-good spelling;
-      zeros = λ none. absurd (none digits);
+      exactly = (λ found. digits, λ all. (address_bytes text, refl));
+      spells = λ address e. subst (Spells text) (some_same e) spelling;
+      good = λ address e. spells-good (subst (Spells text) (some_same e) spelling);
+      none = λ none. absurd (none digits);
     })
     (λ no. record {
-      exactly = (λ found. absurd (false≢true found), λ all. absurd (false≢true (sym no ∙ (address-iff text).1 all)));
-      spells = λ found. absurd (false≢true found);
-      good = λ found. absurd (false≢true found);
-      zeros = λ none. refl;
+      exactly = (λ found. none_read found.1, λ all. absurd (false≢true (sym no ∙ (address-iff text).1 all)));
+      spells = λ address e. none_read e;
+      good = λ address e. none_read e;
+      none = λ none. refl;
     })

@@ -1,10 +1,9 @@
 -- The address that the replay program is given: twelve digits, highest first, as the six bytes of an address, low byte first.
-use Rattle.std.specs.Prelude.{ℕ, ◌+◌, ◌*◌, ◌%◌, Bool, true, false, ◌&&◌, length, get_or, eqb}
-use mathlib.Core.List.{List, [], ◌∷◌, replicate}
+use Rattle.std.specs.Prelude.{ℕ, ◌+◌, ◌*◌, ◌%◌, Bool, ◌&&◌, length, get_or, eqb, Option, Some, None}
+use mathlib.Core.List.{List, [], ◌∷◌}
 use Rattle.laws.specs.All.{all_of}
 use Rattle.laws.specs.Test.{pick}
 use Rattle.replay_address.specs.Digits.{is_digit}
-use Rattle.replay_address.specs.declared.ReadAddress.{ReadAddress}
 
 -- Two digits as one byte, the first in the higher half: the number of a digit is the low half of its character.
 unfoldable pub pair_of : ℕ → ℕ → ℕ
@@ -22,10 +21,6 @@ address_bytes text = pair_at text 10 ∷ pair_at text 8 ∷ pair_at text 6 ∷ p
 unfoldable pub is_address : List ℕ → Bool
 is_address text = eqb (length text) 12 && all_of is_digit text
 
--- What is read from a text that is no address: six zeros, which are not to be taken for one.
-abbrev pub no_address : ReadAddress
-no_address = record { found = false; address = replicate 6 0 }
-
 -- The address of twelve digits; any other text is no address.
-unfoldable pub address_read : List ℕ → ReadAddress
-address_read text = pick (is_address text) (record { found = true; address = address_bytes text }) no_address
+unfoldable pub address_read : List ℕ → Option (List ℕ)
+address_read text = pick (is_address text) (Some (address_bytes text)) None

@@ -1,6 +1,6 @@
 -- The beginning of the replay program in words: a session of the address that twelve digits spell; or how the program is called, for a missing address
 -- and for a bad one, and a session in which nothing can be played.
-use Rattle.std.specs.Prelude.{ℕ, ◌≡◌, refl, Bool, true, false, ◌&&◌, ◌↔◌, List, eqb}
+use Rattle.std.specs.Prelude.{ℕ, ◌≡◌, refl, Bool, true, false, ◌&&◌, ◌↔◌, List, eqb, Err, Ok, Option, Some, None, Result, unwrap_or}
 use Rattle.std.proofs.Common.{sym, ◌∙◌, arith}
 use Rattle.std.proofs.lemmas.Bool.{false≢true}
 use Rattle.std.proofs.Math.Bool.{and-eq-true_iff}
@@ -11,15 +11,14 @@ use Rattle.item_address.proofs.AddressLaws.{good, is_good_lem}
 use Rattle.replay.proofs.StepWords.{InRanges}
 use Rattle.replay_address.specs.Digits.{spelled}
 use Rattle.replay_address.specs.Address.{address_read}
-use Rattle.replay_address.proofs.AddressLaws.{TwelveDigits, Spells, address-reads}
+use Rattle.replay_address.proofs.AddressLaws.{TwelveDigits, Spells, AddressReads, address-reads, none_read}
 use Rattle.replay_block.specs.Block.{begun}
 use Rattle.replay_block.proofs.BlockWords.{begin_words, begin_refused}
 use Rattle.replay_text.specs.declared.Message.{Message}
 use Rattle.replay_text.specs.declared.Message.TheVariants.{Usage}
 use Rattle.replay_text.specs.declared.Reason.{Reason}
 use Rattle.replay_text.specs.declared.Reason.TheVariants.{NotOneArgument, BadAddress}
-use Rattle.replay_begin.specs.Beginning.{address_given, beginning}
-use Rattle.replay_begin.specs.declared.Opening.TheVariants.{Begun, Said}
+use Rattle.replay_begin.specs.Beginning.{no_meter, address_given, beginning}
 use Rattle.replay_begin.specs.declared.Beginning.{Beginning}
 
 -- The one word behind the program's name is twelve digits, and not twelve nines.
@@ -31,11 +30,11 @@ pub record NamesAMeter (words : ℕ) (word : List ℕ) : Type 0 where
 -- What holds of a beginning with so many words, the second of them this.
 pub record BeginsRight (words : ℕ) (word : List ℕ) (b : Beginning) : Type 0 where
   -- a session begins exactly where a meter is named, and it is that of the address that the digits spell
-  pub begins : (b.opening ≡ Begun) ↔ NamesAMeter words word
-  pub session : b.opening ≡ Begun → (address : List ℕ) × Spells word address × Good address × (b.session ≡ (begun address).session)
+  pub begins : (b.opening ≡ Ok tt) ↔ NamesAMeter words word
+  pub session : b.opening ≡ Ok tt → (address : List ℕ) × Spells word address × Good address × (b.session ≡ (begun address).session)
   -- else it is said how the program is called, for a missing address or for a bad one, and the session is out of its ranges
-  pub missing : (b.opening ≡ Said (Usage NotOneArgument)) ↔ (words ≡ 2 → ⊥)
-  pub bad : (b.opening ≡ Said (Usage BadAddress)) ↔ ((words ≡ 2) × (NamesAMeter words word → ⊥))
+  pub missing : (b.opening ≡ Err (Usage NotOneArgument)) ↔ (words ≡ 2 → ⊥)
+  pub bad : (b.opening ≡ Err (Usage BadAddress)) ↔ ((words ≡ 2) × (NamesAMeter words word → ⊥))
   pub none : (NamesAMeter words word → ⊥) → InRanges b.session.state → ⊥
 
 -- An address that is given: good exactly where a meter is named, and then the digits spell it.
@@ -43,35 +42,39 @@ record IsGiven (words : ℕ) (word address : List ℕ) : Type 0 where
   exactly : Good address ↔ NamesAMeter words word
   spells : NamesAMeter words word → Spells word address
 
-given : (words : ℕ) (word : List ℕ) → IsGiven words word (address_given words word)
-unfolding address_given
-given words word =
-    let read = address-reads word in
-    let both = and-eq-true_iff (eqb words 2) (address_read word).found in
-    pick_cases (IsGiven words word) (eqb words 2 && (address_read word).found)
-    (λ yes.
-    let two = eqb-true words 2 (both.0 yes).0 in
-    let found = (both.0 yes).1 in
-    record {
-      exactly = (
-        λ fine. record { two = two; digits = read.exactly.0 found; no_nines = (read.good found).0 fine },
-        λ names. (read.good found).1 names.no_nines,
-      );
-      spells = λ names. read.spells found;
-    })
-    (λ none.
-    let unnamed : NamesAMeter words word → ⊥ =
-    λ names. false≢true (sym none ∙ both.1 (eq-eqb words 2 names.two, read.exactly.1 names.digits)) in
+-- Where no meter is named, the address is one that no meter has.
+unnamed-given : {words : ℕ} {word : List ℕ} → (NamesAMeter words word → ⊥) → IsGiven words word no_meter
+unnamed-given unnamed =
     record {
       exactly = (λ fine. absurd (omega (arith, fine.decimal.0)), λ names. absurd (unnamed names));
       spells = λ names. absurd (unnamed names);
-    })
+    }
+
+given : (words : ℕ) (word : List ℕ) → IsGiven words word (address_given words word)
+unfolding address_given
+given words word =
+    pick_cases (IsGiven words word) (eqb words 2)
+    (λ yes. by (eqb-true words 2 yes) (address_read word) refl)
+    (λ no. unnamed-given (λ names. eqb-false words 2 no names.two))
+  where
+    reads : AddressReads word (address_read word)
+    reads = address-reads word
+
+    by : words ≡ 2 → (read : Option (List ℕ)) → address_read word ≡ read → IsGiven words word (unwrap_or read no_meter)
+    by two (Some address) e = record {
+      exactly = (
+        λ fine. record { two = two; digits = reads.exactly.0 (address, e); no_nines = (reads.good address e).0 fine },
+        λ names. (reads.good address e).1 names.no_nines,
+      );
+      spells = λ names. reads.spells address e;
+    }
+    by two None e = unnamed-given (λ names. none_read (sym e ∙ (reads.exactly.1 names.digits).1))
 
 -- Openings that differ.
-not-said : {A : Type 0} {m : Message} → Begun ≡ Said m → A
+not-said : {A : Type 0} {m : Message} → ◌≡◌ {A = Result Unit Message} (Ok tt) (Err m) → A
 not-said e = let z : ◌≡◌ {A = ℕ} 0 1 = cc in absurd (omega arith)
 
-other_reason : {A : Type 0} → Said (Usage BadAddress) ≡ Said (Usage NotOneArgument) → A
+other_reason : {A : Type 0} → ◌≡◌ {A = Result Unit Message} (Err (Usage BadAddress)) (Err (Usage NotOneArgument)) → A
 other_reason e = let z : ◌≡◌ {A = ℕ} 0 1 = cc in absurd (omega arith)
 
 -- Every beginning: a good address, and any other.
@@ -114,7 +117,7 @@ module _ (words : ℕ) (word : List ℕ) where
       }))
     where
       P : Reason → Type 0
-      P reason = BeginsRight words word (record { session = (begun address).session; opening = Said (Usage reason) })
+      P reason = BeginsRight words word (record { session = (begun address).session; opening = Err (Usage reason) })
 
   pub begins-right : BeginsRight words word (beginning words word)
   begins-right = by (is_good address) refl

@@ -4,59 +4,46 @@
 ghost use Rattle.std.specs.Prelude.{◌≡◌};
 ghost use Rattle.replay_begin.specs.Beginning.{address_given, opening_by, beginning};
 
-use meter_counting::HostAnswer;
+use frame::refusal::Refusal;
 use replay_address::read_address;
-use replay_block::Session;
+use replay_block::{Begun, Session};
 use replay_text::{Message, Reason};
 
-// Whether a session begins.
-#[derive(Clone, Copy)]
-pub enum Opening {
-    Begun,
-    // None does: this is said.
-    Said(Message),
-}
-
-// The beginning of the program, with the session; where none begins, one of which every block is refused with 16.
+// The beginning of the program, with the session; where none begins, what is said, and a session of which every block is refused with 16.
 #[derive(Clone, Copy)]
 pub struct Beginning {
     pub session: Session,
-    pub opening: Opening,
+    pub opening: Result<(), Message>,
 }
 
 // The address that the second of two words spells; six bytes FF, which no meter has, where there are not two words or it spells none.
+#[tactic(auto, unfolding(crate::specs::Beginning::address_given))]
 fn address_given(words: usize, word: &[u8]) -> [u8; 6]
     ensures { result ≡ address_given words word.now }
 {
-    let read = read_address(word);
-    if (words == 2) & read.found {
-        return read.address;
+    if words != 2 {
+        return [255; 6];
     }
-    [255; 6]
+    read_address(word).unwrap_or([255; 6])
 }
 
-// Whether a session begins, by the answer to its beginning in a call of so many words.
-fn opening_by(answer: HostAnswer, words: usize) -> Opening
+// Whether a session begins, or what is said, by the answer to its beginning in a call of so many words.
+fn opening_by(answer: Result<(), Refusal>, words: usize) -> Result<(), Message>
     ensures { result ≡ opening_by answer words }
 {
     match answer {
-        HostAnswer::Done => Opening::Begun,
-        HostAnswer::Refused(_) => {
-            if words == 2 {
-                return Opening::Said(Message::Usage(Reason::BadAddress));
-            }
-            Opening::Said(Message::Usage(Reason::NotOneArgument))
-        }
+        Ok(()) => Ok(()),
+        Err(_) if words == 2 => Err(Message::Usage(Reason::BadAddress)),
+        Err(_) => Err(Message::Usage(Reason::NotOneArgument)),
     }
 }
 
 // Begins with a call of so many words, the program's name among them; the word behind it is this.
+#[tactic(auto, unfolding(crate::specs::Beginning::beginning))]
 pub fn begin_with(words: usize, word: &[u8]) -> Beginning
     ensures { result ≡ beginning words word.now }
 {
-    let begun = replay_block::begin(address_given(words, word));
-    let session = begun.session;
-    let answer = begun.answer;
+    let Begun { session, answer } = replay_block::begin(address_given(words, word));
     Beginning {
         session,
         opening: opening_by(answer, words),

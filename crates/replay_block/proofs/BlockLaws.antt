@@ -1,5 +1,8 @@
 -- Laws of a block: what its beginning needs, what its records come to once they are all played, and each way out of a call.
-use Rattle.std.specs.Prelude.{◌≡◌, ℕ, ◌+◌, ◌-◌, ◌*◌, ◌<◌, ◌≤◌, Bool, true, false, List, length, take, drop, ◌==◌, refl}
+use Rattle.std.specs.Prelude.{◌≡◌, ℕ, ◌+◌, ◌-◌, ◌*◌, ◌<◌, ◌≤◌, Bool, true, false, List, length, take, drop, ◌==◌, refl, Err, None, Ok, Option, Result, Some}
+use Rattle.frame.specs.declared.refusal.Refusal.{Refusal}
+use Rattle.trace.specs.Front.{found_record}
+use Rattle.trace.specs.declared.RecordFound.{RecordFound}
 use Rattle.std.proofs.Common.{arith, sym, ◌∙◌}
 use Rattle.std.proofs.Math.Path.{ap}
 use Rattle.std.proofs.lemmas.Bool.{false≢true}
@@ -15,8 +18,6 @@ use Rattle.meter.specs.Meter.{MeterSized}
 use Rattle.trace.specs.Trace.{front_of}
 use Rattle.trace.proofs.FrontCases.{CutOff, cut-byte, cut-pulse, cut-key, FrontCase, ended, no_kind, cut_off_lem, bad-field, front_case}
 use Rattle.trace.specs.declared.TraceRecord.{TraceRecord}
-use Rattle.trace.specs.declared.Front.{Front}
-use Rattle.trace.specs.declared.Front.TheVariants as front
 use Rattle.replay.specs.Replay.{is_within, played_all}
 use Rattle.replay.proofs.PlayLaws.{both-within}
 use Rattle.replay_block.specs.Block.{rest_in, went_on, is_stop, refusal_of, BlockOutcome, block_outcome, lines_in, after_block, block_played, block_replayed, Stops}
@@ -70,18 +71,18 @@ cut-few (cut-key body short) = omega arith
 pub rest-few : (rest : List ℕ) (ends : Bool) → Stops rest → is_stop (front_of rest) ends ≡ false → length rest ≤ 6
 rest-few rest ends stops on = by (front_of rest) refl on
   where
-    none-few : {other : List ℕ} → FrontCase other front.Ended → length other ≤ 6
+    none-few : {other : List ℕ} → FrontCase other (Ok None) → length other ≤ 6
     none-few ended = omega arith
 
-    refused-few : {other : List ℕ} {n : ℕ} → FrontCase other (front.Refused n) → is_stop (front.Refused n) ends ≡ false → length other ≤ 6
+    refused-few : {other : List ℕ} {n : Refusal} → FrontCase other (Err n) → is_stop (Err n) ends ≡ false → length other ≤ 6
     refused-few (no_kind k) on = let z : ◌≡◌ {A = ℕ} 0 1 = cc in absurd (omega arith)
     refused-few (cut_off_lem k) on = cut-few k
     refused-few (bad-field k) on = let z : ◌≡◌ {A = ℕ} 0 1 = cc in absurd (omega arith)
 
-    by : (f : Front) → front_of rest ≡ f → is_stop f ends ≡ false → length rest ≤ 6
-    by front.Ended e on = none-few (front_case e)
-    by (front.Refused n) e on = refused-few (front_case e) on
-    by (front.Good r n) e on = absurd (stops r n e)
+    by : (f : Result (Option RecordFound) Refusal) → front_of rest ≡ f → is_stop f ends ≡ false → length rest ≤ 6
+    by (Ok None) e on = none-few (front_case e)
+    by (Err n) e on = refused-few (front_case e) on
+    by (Ok (Some f)) e on = absurd (stops f.found f.length e)
 
 -- The ways out of a call, in the order of its tests.
 module _ (kept read : ℕ) (s : Session) (buffer text : List ℕ) where
@@ -104,7 +105,7 @@ module _ (kept read : ℕ) (s : Session) (buffer text : List ℕ) where
 
       -- Else the block is played, and what stands at the front of the rest decides.
       module _ (room : 8192 + 18 * (kept + read) ≤ length text) {run : Run} {left : List ℕ}
-          (p : PlaysBlock (take (kept + read) buffer) s run text left) {f : Front} (told : f ≡ front_of (drop run.at (take (kept + read) buffer))) where
+          (p : PlaysBlock (take (kept + read) buffer) s run text left) {f : Result (Option RecordFound) Refusal} (told : f ≡ front_of (drop run.at (take (kept + read) buffer))) where
         -- The bytes kept and read.
         abbrev block : List ℕ
         block = take (kept + read) buffer
@@ -126,7 +127,7 @@ module _ (kept read : ℕ) (s : Session) (buffer text : List ℕ) where
             pick_cases (λ (o : BlockOutcome). block_outcome run.session (Stopped (refusal_of f) run.text) buffer left ≡ o)
             (is_stop (front_of (rest_in block)) (read == 0))
             (λ _. λ i. block_outcome (p.session i) (Stopped (refusal_of (at_rest i)) (p.text i)) buffer (p.memory i))
-            (λ on. absurd (false≢true (sym on ∙ ap (λ (x : Front). is_stop x (read == 0)) (sym at_rest) ∙ stop)))
+            (λ on. absurd (false≢true (sym on ∙ ap (λ (x : Result (Option RecordFound) Refusal). is_stop x (read == 0)) (sym at_rest) ∙ stop)))
             ∙ plays
 
         -- No stop: the bytes from where the run has ended are moved to the front of the buffer.
@@ -141,6 +142,6 @@ module _ (kept read : ℕ) (s : Session) (buffer text : List ℕ) where
             let part : List ℕ = take (kept + read - run.at) (drop run.at buffer) in
             pick_cases (λ (o : BlockOutcome). block_outcome run.session (Played run.text (kept + read - run.at)) (over part buffer) left ≡ o)
             (is_stop (front_of (rest_in block)) (read == 0))
-            (λ stop. absurd (false≢true (sym on ∙ ap (λ (x : Front). is_stop x (read == 0)) at_rest ∙ stop)))
+            (λ stop. absurd (false≢true (sym on ∙ ap (λ (x : Result (Option RecordFound) Refusal). is_stop x (read == 0)) at_rest ∙ stop)))
             (λ _. λ i. block_outcome (p.session i) (Played (p.text i) (size i)) (over (rest i) buffer) (p.memory i))
             ∙ plays

@@ -1,5 +1,11 @@
 -- A call over a block in words: where it is refused and with which number, which records it has read, where it stops, and what it leaves.
-use Rattle.std.specs.Prelude.{◌≡◌, ℕ, ◌+◌, ◌*◌, ◌<◌, ◌≤◌, true, false, ◌⊎◌, ◌↔◌, List, [], ◌∷◌, length, take, drop, ◌==◌, ◌≢◌, nat_le, refl}
+use Rattle.laws.specs.ResultLaws.{err_same}
+use Rattle.frame.specs.Refusals.{number_of}
+use Rattle.frame.specs.declared.refusal.Refusal.TheVariants.{BadRecord, CutOff, BadArgument}
+use Rattle.std.specs.Prelude.{◌≡◌, ℕ, ◌+◌, ◌*◌, ◌<◌, ◌≤◌, true, false, ◌⊎◌, ◌↔◌, List, [], ◌∷◌, length, take, drop, ◌==◌, ◌≢◌, nat_le, refl, Err, None, Ok, Option, Result, Some}
+use Rattle.frame.specs.declared.refusal.Refusal.{Refusal}
+use Rattle.trace.specs.Front.{found_record}
+use Rattle.trace.specs.declared.RecordFound.{RecordFound}
 use Rattle.std.proofs.Common.{arith, sym, ap, subst, ◌∙◌, true≢false, inl, inr, length-append, leb-true, leb-false, eqb-true}
 use Rattle.std.proofs.Math.Decide.{dec_lt}
 use Rattle.std.proofs.lemmas.Bool.{false≢true, eqb-false}
@@ -12,11 +18,8 @@ use Rattle.trace.specs.Trace.{front_of}
 use Rattle.trace.specs.Records.{ReadsAs}
 use Rattle.trace.proofs.FrontCases.{FrontCase, ended, no_kind, cut_off_lem, bad-field, case_front, front_case}
 use Rattle.trace.specs.declared.TraceRecord.{TraceRecord}
-use Rattle.trace.specs.declared.Front.{Front}
-use Rattle.trace.specs.declared.Front.TheVariants as front
 use Rattle.item_address.specs.Address.{Good}
 use Rattle.meter_counting.proofs.Said.{host_said}
-use Rattle.meter_counting.specs.declared.HostAnswer.TheVariants.{Done, Refused as HostRefused}
 use Rattle.replay.specs.Replay.{is_within, started}
 use Rattle.replay.specs.ByHand.{hand_start}
 use Rattle.replay.proofs.Said.{start-refused}
@@ -146,14 +149,14 @@ Unrefused (Stopped n text) = Unit
 -- What holds of a call that is not refused, where this rest is left behind the records that it played.
 pub record BlockIsRight (rest : List ℕ) (c : BlockCall) : Type 0 where
   -- it stops with 9 exactly where an unknown kind or a field out of its range is left
-  pub nine : ((text : ℕ) × (c.returned.answer ≡ Stopped 9 text)) ↔ (Unrefused c.returned.answer × (front_of rest ≡ front.Refused 9))
+  pub nine : ((text : ℕ) × (c.returned.answer ≡ Stopped 9 text)) ↔ (Unrefused c.returned.answer × (front_of rest ≡ Err BadRecord))
   -- with 10 exactly where a record that is cut off is left and the trace has ended, and with no other number
   pub ten : ((text : ℕ) × (c.returned.answer ≡ Stopped 10 text))
-      ↔ (Unrefused c.returned.answer × (front_of rest ≡ front.Refused 10) × (c.read ≡ 0))
+      ↔ (Unrefused c.returned.answer × (front_of rest ≡ Err CutOff) × (c.read ≡ 0))
   pub others : (n text : ℕ) → c.returned.answer ≡ Stopped n text → (n ≡ 9) ⊎ (n ≡ 10)
   -- else, exactly where nothing is left, or a record that is cut off before bytes to come, the block is played
   pub played : ((text : ℕ) × (kept : ℕ) × (c.returned.answer ≡ Played text kept))
-      ↔ (Unrefused c.returned.answer × ((rest ≡ []) ⊎ ((front_of rest ≡ front.Refused 10) × (0 < c.read))))
+      ↔ (Unrefused c.returned.answer × ((rest ≡ []) ⊎ ((front_of rest ≡ Err CutOff) × (0 < c.read))))
   -- a stop leaves the buffer; what is beyond its text, which lies within its memory, is as it was
   pub stopped_leaves : (n text : ℕ) → c.returned.answer ≡ Stopped n text →
       (c.left_buffer ≡ c.buffer) × (text ≤ length c.left) × (drop text c.left ≡ drop text c.lent)
@@ -180,34 +183,34 @@ pub record CallIsRight (before : List ℕ) (s : Session) (c : BlockCall) : Type 
   pub right : BlockIsRight (kept_by c.returned.answer before c) c
 
 -- Where it stops, and where it does not.
-stop_at : (rest : List ℕ) (read : ℕ) (f : Front) → front_of rest ≡ f → is_stop f (read == 0) ≡ true →
-    (front_of rest ≡ front.Refused (refusal_of f)) × ((refusal_of f ≡ 9) ⊎ ((refusal_of f ≡ 10) × (read ≡ 0)))
-stop_at rest read front.Ended e stop = absurd (false≢true stop)
-stop_at rest read (front.Good r n) e stop = absurd (false≢true stop)
-stop_at rest read (front.Refused n) e stop = (e, number (front_case e) stop)
+stop_at : (rest : List ℕ) (read : ℕ) (f : Result (Option RecordFound) Refusal) → front_of rest ≡ f → is_stop f (read == 0) ≡ true →
+    (k : Refusal) × (front_of rest ≡ Err k) × (refusal_of f ≡ number_of k) × ((k ≡ BadRecord) ⊎ ((k ≡ CutOff) × (read ≡ 0)))
+stop_at rest read (Ok None) e stop = absurd (false≢true stop)
+stop_at rest read (Ok (Some f)) e stop = absurd (false≢true stop)
+stop_at rest read (Err n) e stop = (n, e, refl, why (front_case e) stop)
   where
-    number : {x : List ℕ} {k : ℕ} → FrontCase x (front.Refused k) → pick (k == 10) (read == 0) true ≡ true → (k ≡ 9) ⊎ ((k ≡ 10) × (read ≡ 0))
-    number (no_kind u) stop = inl refl
-    number (bad-field b) stop = inl refl
-    number (cut_off_lem c) stop = inr (refl, eqb-true read 0 stop)
+    why : {x : List ℕ} {k : Refusal} → FrontCase x (Err k) → pick (number_of k == 10) (read == 0) true ≡ true → (k ≡ BadRecord) ⊎ ((k ≡ CutOff) × (read ≡ 0))
+    why (no_kind u) stop = inl refl
+    why (bad-field b) stop = inl refl
+    why (cut_off_lem c) stop = inr (refl, eqb-true read 0 stop)
 
 some : {n : ℕ} → (n ≢ 0) → 0 < n
 some {n} h = elim (dec_lt 0 n) [ yes l ↦ l | no l ↦ absurd (h (omega arith)) ]
 
-goes_at : (rest : List ℕ) (read : ℕ) (f : Front) → front_of rest ≡ f → Stops rest → is_stop f (read == 0) ≡ false →
-    (rest ≡ []) ⊎ ((front_of rest ≡ front.Refused 10) × (0 < read))
-goes_at rest read front.Ended e stop on = inl (empty (front_case e))
+goes_at : (rest : List ℕ) (read : ℕ) (f : Result (Option RecordFound) Refusal) → front_of rest ≡ f → Stops rest → is_stop f (read == 0) ≡ false →
+    (rest ≡ []) ⊎ ((front_of rest ≡ Err CutOff) × (0 < read))
+goes_at rest read (Ok None) e stop on = inl (empty (front_case e))
   where
-    empty : {x : List ℕ} → FrontCase x front.Ended → x ≡ []
+    empty : {x : List ℕ} → FrontCase x (Ok None) → x ≡ []
     empty ended = refl
-goes_at rest read (front.Good r n) e stop on = absurd (stop r n e)
-goes_at rest read (front.Refused n) e stop on = number (front_case e) refl on
+goes_at rest read (Ok (Some f)) e stop on = absurd (stop f.found f.length e)
+goes_at rest read (Err n) e stop on = number (front_case e) refl on
   where
-    number : {x : List ℕ} {k : ℕ} → FrontCase x (front.Refused k) → k ≡ n → pick (k == 10) (read == 0) true ≡ false →
-        (rest ≡ []) ⊎ ((front_of rest ≡ front.Refused 10) × (0 < read))
+    number : {x : List ℕ} {k : Refusal} → FrontCase x (Err k) → k ≡ n → pick (number_of k == 10) (read == 0) true ≡ false →
+        (rest ≡ []) ⊎ ((front_of rest ≡ Err CutOff) × (0 < read))
     number (no_kind u) same on = absurd (true≢false on)
     number (bad-field b) same on = absurd (true≢false on)
-    number (cut_off_lem c) same on = inr (e ∙ ap front.Refused (sym same), some (eqb-false read 0 on))
+    number (cut_off_lem c) same on = inr (e ∙ ap Err (sym same), some (eqb-false read 0 on))
 
 -- Answers that differ.
 module _ {A : Type 0} {answer : BlockAnswer} where
@@ -221,7 +224,7 @@ module _ {A : Type 0} {answer : BlockAnswer} where
   no_stop_play a b = let z : ◌≡◌ {A = ℕ} 0 1 = cc in absurd (omega arith)
 
 -- Nothing left is no refusal.
-no_end : {A : Type 0} {n : ℕ} {rest : List ℕ} → rest ≡ [] → front_of rest ≡ front.Refused n → A
+no_end : {A : Type 0} {n : Refusal} {rest : List ℕ} → rest ≡ [] → front_of rest ≡ Err n → A
 no_end e there = let end = case_front ended in let z : ◌≡◌ {A = ℕ} 0 1 = cc (ap front_of e, end, there) in absurd (omega arith)
 
 -- A call that is refused, one that stops, and one that is played.
@@ -237,37 +240,44 @@ module _ {rest : List ℕ} {c : BlockCall} where
         played_leaves = λ text kept e. no_refused_play a e;
       }
 
-  stop-right : {n used : ℕ} → c.returned.answer ≡ Stopped n used → (front_of rest ≡ front.Refused n) × ((n ≡ 9) ⊎ ((n ≡ 10) × (c.read ≡ 0))) →
+  stop-right : {used n : ℕ} → c.returned.answer ≡ Stopped n used
+      → ((k : Refusal) × (front_of rest ≡ Err k) × (n ≡ number_of k) × ((k ≡ BadRecord) ⊎ ((k ≡ CutOff) × (c.read ≡ 0)))) →
       c.left_buffer ≡ c.buffer → used ≤ length c.left → drop used c.left ≡ drop used c.lent → BlockIsRight rest c
-  stop-right {n} {used} a (there, which) buffer room beyond =
+  stop-right {used} {n} a (k, there, is, which) buffer room beyond =
       record {
         nine = (
-          λ (t, e). let same : n ≡ 9 = cc (a, e) in (rw a tt, there ∙ ap front.Refused same),
-          λ (u, e). let same : n ≡ 9 = cc (there, e) in (used, a ∙ ap (λ (k : ℕ). Stopped k used) same),
+          λ (t, e). let same : n ≡ 9 = cc (a, e) in (rw a tt, there ∙ ap Err (bad which same)),
+          λ (u, e). let same : k ≡ BadRecord = err_same (sym there ∙ e) in (used, a ∙ ap (λ (m : ℕ). Stopped m used) (is ∙ ap number_of same)),
         );
         ten = (
-          λ (t, e). let same : n ≡ 10 = cc (a, e) in (rw a tt, there ∙ ap front.Refused same, ended_too which same),
-          λ (u, e, z). let same : n ≡ 10 = cc (there, e) in (used, a ∙ ap (λ (k : ℕ). Stopped k used) same),
+          λ (t, e). let same : n ≡ 10 = cc (a, e) in (rw a tt, there ∙ ap Err (cut which same).0, (cut which same).1),
+          λ (u, e, z). let same : k ≡ CutOff = err_same (sym there ∙ e) in (used, a ∙ ap (λ (m : ℕ). Stopped m used) (is ∙ ap number_of same)),
         );
-        others = λ k text e. let same : n ≡ k = cc (a, e) in number which same;
+        others = λ m text e. let same : n ≡ m = cc (a, e) in number which same;
         played = (λ (t, k, e). no_stop_play a e, λ (u, e). not_on e);
-        stopped_leaves = λ k text e. let same : text ≡ used = cc (a, e) in rw same (buffer, room, beyond);
+        stopped_leaves = λ m text e. let same : text ≡ used = cc (a, e) in rw same (buffer, room, beyond);
         played_leaves = λ text kept e. no_stop_play a e;
       }
     where
-      ended_too : (n ≡ 9) ⊎ ((n ≡ 10) × (c.read ≡ 0)) → n ≡ 10 → c.read ≡ 0
-      ended_too (inl e) same = absurd (omega arith)
-      ended_too (inr (e, z)) same = z
+      bad : (k ≡ BadRecord) ⊎ ((k ≡ CutOff) × (c.read ≡ 0)) → n ≡ 9 → k ≡ BadRecord
+      bad (inl e) same = e
+      bad (inr (e, z)) same = absurd (omega (arith, is, ap number_of e))
 
-      number : {k : ℕ} → (n ≡ 9) ⊎ ((n ≡ 10) × (c.read ≡ 0)) → n ≡ k → (k ≡ 9) ⊎ (k ≡ 10)
-      number (inl e) same = inl (omega arith)
-      number (inr (e, z)) same = inr (omega arith)
+      cut : (k ≡ BadRecord) ⊎ ((k ≡ CutOff) × (c.read ≡ 0)) → n ≡ 10 → (k ≡ CutOff) × (c.read ≡ 0)
+      cut (inl e) same = absurd (omega (arith, is, ap number_of e))
+      cut (inr p) same = p
 
-      not_on : {A : Type 0} → (rest ≡ []) ⊎ ((front_of rest ≡ front.Refused 10) × (0 < c.read)) → A
+      number : {m : ℕ} → (k ≡ BadRecord) ⊎ ((k ≡ CutOff) × (c.read ≡ 0)) → n ≡ m → (m ≡ 9) ⊎ (m ≡ 10)
+      number (inl e) same = inl (omega (arith, is, ap number_of e))
+      number (inr (e, z)) same = inr (omega (arith, is, ap number_of e))
+
+      not_on : {A : Type 0} → (rest ≡ []) ⊎ ((front_of rest ≡ Err CutOff) × (0 < c.read)) → A
       not_on (inl e) = no_end e there
-      not_on (inr (e, more)) = let same : n ≡ 10 = cc (there, e) in absurd (omega (arith, ended_too which same))
+      not_on (inr (e, more)) =
+          let ten : n ≡ 10 = is ∙ ap number_of (err_same (sym there ∙ e)) in
+          absurd (omega (arith, (cut which ten).1))
 
-  play_right : {used kept : ℕ} → c.returned.answer ≡ Played used kept → (rest ≡ []) ⊎ ((front_of rest ≡ front.Refused 10) × (0 < c.read)) →
+  play_right : {used kept : ℕ} → c.returned.answer ≡ Played used kept → (rest ≡ []) ⊎ ((front_of rest ≡ Err CutOff) × (0 < c.read)) →
       (kept ≡ length rest) × (kept ≤ 6) × (drop kept c.left_buffer ≡ drop kept c.buffer) → used ≤ length c.left →
       drop used c.left ≡ drop used c.lent → BlockIsRight rest c
   play_right {used} {kept} a goes keeps room beyond =
@@ -283,11 +293,11 @@ module _ {rest : List ℕ} {c : BlockCall} where
             rw (same, few) (keeps.0, keeps.1, keeps.2, room, beyond);
       }
     where
-      not-nine : (rest ≡ []) ⊎ ((front_of rest ≡ front.Refused 10) × (0 < c.read)) → front_of rest ≢ front.Refused 9
+      not-nine : (rest ≡ []) ⊎ ((front_of rest ≡ Err CutOff) × (0 < c.read)) → front_of rest ≢ Err BadRecord
       not-nine (inl e) there = no_end e there
-      not-nine (inr (e, more)) there = let z : ◌≡◌ {A = ℕ} 9 10 = cc (e, there) in omega arith
+      not-nine (inr (e, more)) there = let z : ◌≡◌ {A = ℕ} 10 9 = ap number_of (err_same (sym e ∙ there)) in omega arith
 
-      not-ten : (rest ≡ []) ⊎ ((front_of rest ≡ front.Refused 10) × (0 < c.read)) → front_of rest ≡ front.Refused 10 → c.read ≢ 0
+      not-ten : (rest ≡ []) ⊎ ((front_of rest ≡ Err CutOff) × (0 < c.read)) → front_of rest ≡ Err CutOff → c.read ≢ 0
       not-ten (inl e) there z = no_end e there
       not-ten (inr (e, more)) there z = omega arith
 
@@ -337,17 +347,18 @@ block_read before s c h unrefused = go (blocking h)
         subst (λ (x : List ℕ). HasRead x c) (sym rest) (all is)
 
 -- What a call that stopped left, and one that was played at the end of the trace.
-pub stops_at : {rest : List ℕ} {c : BlockCall} {n text : ℕ} → BlockIsRight rest c → c.returned.answer ≡ Stopped n text → front_of rest ≡ front.Refused n
-stops_at {rest} {c} {n} {text} right e = by (right.others n text e)
+pub stops_at : {rest : List ℕ} {c : BlockCall} {text n : ℕ} → BlockIsRight rest c → c.returned.answer ≡ Stopped n text →
+    (k : Refusal) × (front_of rest ≡ Err k) × (number_of k ≡ n)
+stops_at {rest} {c} {text} {n} right e = by (right.others n text e)
   where
-    by : (n ≡ 9) ⊎ (n ≡ 10) → front_of rest ≡ front.Refused n
-    by (inl same) = (right.nine.0 (text, rw same at e)).1 ∙ ap front.Refused (sym same)
-    by (inr same) = (right.ten.0 (text, rw same at e)).1 ∙ ap front.Refused (sym same)
+    by : (n ≡ 9) ⊎ (n ≡ 10) → (k : Refusal) × (front_of rest ≡ Err k) × (number_of k ≡ n)
+    by (inl same) = (BadRecord, (right.nine.0 (text, rw same at e)).1, sym same)
+    by (inr same) = (CutOff, (right.ten.0 (text, rw same at e)).1, sym same)
 
 pub ends_at : {rest : List ℕ} {c : BlockCall} {text kept : ℕ} → BlockIsRight rest c → c.returned.answer ≡ Played text kept → c.read ≡ 0 → rest ≡ []
 ends_at {rest} {c} {text} {kept} right e end = by (right.played.0 (text, kept, e)).1
   where
-    by : (rest ≡ []) ⊎ ((front_of rest ≡ front.Refused 10) × (0 < c.read)) → rest ≡ []
+    by : (rest ≡ []) ⊎ ((front_of rest ≡ Err CutOff) × (0 < c.read)) → rest ≡ []
     by (inl none) = none
     by (inr (cut, more)) = absurd (omega arith)
 
@@ -403,8 +414,8 @@ pub record BeginWords (address : List ℕ) (b : Begun) : Type 0 where
   pub records : b.session.records ≡ 0
   pub frames : b.session.frames ≡ 0
   pub replies : b.session.replies ≡ 0
-  pub made : Good address → b.answer ≡ Done
-  pub refused : (Good address → ⊥) → b.answer ≡ HostRefused 8
+  pub made : Good address → b.answer ≡ Ok tt
+  pub refused : (Good address → ⊥) → b.answer ≡ Err BadArgument
 
 pub begin_words : (address : List ℕ) → BeginWords address (begun address)
 unfolding begun started

@@ -1,5 +1,6 @@
 -- A trace of good records, brought in blocks: when it is whole nothing is kept, and what was played are its records.
-use Rattle.std.specs.Prelude.{◌≡◌, ℕ, ◌%◌, ◌<◌, ◌⊎◌, List, [], ◌∷◌, ◌++◌, length, refl}
+use Rattle.frame.specs.declared.refusal.Refusal.{Refusal}
+use Rattle.std.specs.Prelude.{◌≡◌, ℕ, ◌%◌, ◌<◌, ◌⊎◌, List, [], ◌∷◌, ◌++◌, length, refl, Err}
 use Rattle.std.proofs.Common.{arith, sym, ap, subst, ◌∙◌, inl, inr, append-nil, append_assoc, length-append}
 use Rattle.std.proofs.Math.Decide.{dec_lt}
 use Rattle.laws.specs.All.{AllOf}
@@ -10,7 +11,6 @@ use Rattle.trace.specs.Trace.{front_of}
 use Rattle.trace.specs.Records.{FieldsRight, written, ReadsAs}
 use Rattle.trace.proofs.TraceLaws.{bad-stays, reads-written, reads_more}
 use Rattle.trace.specs.declared.TraceRecord.{TraceRecord}
-use Rattle.trace.specs.declared.Front.TheVariants as front
 use Rattle.replay.specs.ByHand.{HandTurn, ByHand, hand_start, frames_put_in, replies_given}
 use Rattle.replay.proofs.Replayed.{PlayedByHand}
 use Rattle.replay_block.specs.Block.{begun}
@@ -101,8 +101,8 @@ blocks-done address records calls six good right bytes h whole =
         (subst (λ (cs : List BlockCall). ReadsAs (trace_of cs) records []) joined reads))
 
     -- Where it leaves what is refused, the calls before it have not brought the whole trace.
-    soon : (earlier : List BlockCall) (c : BlockCall) (later : List BlockCall) → calls ≡ earlier ++ (c ∷ later) → (n : ℕ) →
-        front_of (kept_by c.returned.answer (kept_after [] earlier) c) ≡ front.Refused n → length (trace_of earlier) < length (written records)
+    soon : (earlier : List BlockCall) (c : BlockCall) (later : List BlockCall) → calls ≡ earlier ++ (c ∷ later) → (n : Refusal) →
+        front_of (kept_by c.returned.answer (kept_after [] earlier) c) ≡ Err n → length (trace_of earlier) < length (written records)
     soon earlier c later e n there =
         elim (dec_lt (length (trace_of earlier)) (length (written records))) [
           | yes few ↦ few
@@ -119,8 +119,8 @@ blocks-done address records calls six good right bytes h whole =
     number : (earlier : List BlockCall) (c : BlockCall) (later : List BlockCall) → calls ≡ earlier ++ (c ∷ later) → {n : ℕ} (text : ℕ) →
         (n ≡ 9) ⊎ (n ≡ 10) → c.returned.answer ≡ Stopped n text → (n ≡ 10) × (c.read ≡ 0) × (length (trace_of earlier) < length (written records))
     number earlier c later e text (inl nine) stop =
-        let there = stops_at (blocks.each earlier c later e).right stop ∙ ap front.Refused nine in
+        let there = ((blocks.each earlier c later e).right.nine.0 (text, rw nine at stop)).1 in
         absurd (read_unrefused (left earlier c later e).1 (bad-stays _ (trace_of later) there))
     number earlier c later e text (inr ten) stop =
         let called = (blocks.each earlier c later e).right in
-        (ten, (called.ten.0 (text, rw ten at stop)).2, soon earlier c later e _ (stops_at called stop))
+        (ten, (called.ten.0 (text, rw ten at stop)).2, soon earlier c later e _ (stops_at called stop).1)

@@ -1,5 +1,7 @@
 -- A trace cut into blocks at any byte replays as the whole: what the blocks bring, stepped record by record as one trace, comes to the same, and stops
 -- at the same place with the same number.
+use Rattle.frame.specs.Refusals.{number_of}
+use Rattle.frame.specs.declared.refusal.Refusal.{Refusal}
 use Rattle.std.specs.Prelude.{◌≡◌, ℕ, ◌%◌, ◌≤◌, List, [], ◌∷◌, ◌++◌, length, drop, refl}
 use Rattle.std.proofs.Common.{arith, sym, ap, subst, ◌∙◌, take-append-drop, length-drop, length-take-le}
 use Rattle.laws.specs.Memory.{outcome}
@@ -38,7 +40,8 @@ pub record SameReplay (address : List ℕ) (calls : List BlockCall) (steps : Lis
   pub replies : (session_after (begun address).session calls).replies ≡ lines_after steps % 18446744073709551616
   -- where the last call stopped, a further step of the whole with memory enough refuses the record there with the same number
   pub stopped : (earlier : List BlockCall) (c : BlockCall) → calls ≡ earlier ++ (c ∷ []) → (n text : ℕ) → c.returned.answer ≡ Stopped n text →
-      (next : StepCall) → StepsOn address calls steps next → 8192 ≤ length next.lent → next.returned.answer ≡ BadRecord n (place_after 0 steps)
+      (next : StepCall) → StepsOn address calls steps next → 8192 ≤ length next.lent →
+      (k : Refusal) × (next.returned.answer ≡ BadRecord k (place_after 0 steps)) × (number_of k ≡ n)
   -- where it was played at the end of the trace, a further step is done, whatever it is lent
   pub ended : (earlier : List BlockCall) (c : BlockCall) → calls ≡ earlier ++ (c ∷ []) → (text kept : ℕ) → c.returned.answer ≡ Played text kept →
       c.read ≡ 0 → (next : StepCall) → StepsOn address calls steps next → next.returned.answer ≡ Done
@@ -73,8 +76,9 @@ cut_anywhere address calls steps six good buffers h k end =
       replies = omega (arith, blocks.replies hand.turns also, whole.lines hand.turns hand.by_hand);
       stopped = λ earlier c e n text stop next on room.
           let left = sym (kept-last [] earlier c) ∙ ap (kept_after []) (sym e) ∙ rest in
-          let there = ap front_of (sym left) ∙ stops_at (blocks.each earlier c [] e).right stop in
-          ((step_words trace at _ next.lent next.returned next.left on).bad-record n at).1 (whole.within, room, refl, there);
+          let at_stop = stops_at (blocks.each earlier c [] e).right stop in
+          let there = ap front_of (sym left) ∙ at_stop.1 in
+          (at_stop.0, ((step_words trace at _ next.lent next.returned next.left on).bad-record at_stop.0 at).1 (whole.within, room, refl, there), at_stop.2);
       ended = λ earlier c e text kept play read next on.
           let left = sym (kept-last [] earlier c) ∙ ap (kept_after []) (sym e) ∙ rest in
           let none : drop at trace ≡ [] = sym left ∙ ends_at (blocks.each earlier c [] e).right play read in

@@ -1,16 +1,16 @@
 -- Laws of hearing: what one call of the receiver keeps and spends, where a byte or a silence stands, and what is heard one behind the other.
-use Rattle.std.specs.Prelude.{◌≡◌, ℕ, suc, ◌+◌, ◌-◌, ◌*◌, ◌<◌, ◌≤◌, Bool, true, false, ◌&&◌, ◌||◌, List, [], ◌∷◌, ◌++◌, map, length, take, drop, ◌==◌, nat_le, nat_lt, slice_index, slice_index_or}
+use Rattle.line.specs.Answer.{handed}
+use Rattle.trace.specs.Front.{found_record}
+use Rattle.std.specs.Prelude.{◌≡◌, ℕ, suc, ◌+◌, ◌-◌, ◌*◌, ◌<◌, ◌≤◌, true, List, [], ◌∷◌, ◌++◌, map, length, take, drop, ◌==◌, nat_le, slice_index, slice_index_or}
 use native.Mathlib.Omega.{arith}
-use Rattle.std.proofs.Math.Decide.{dec_lt}
 use Rattle.std.proofs.Math.Path.{refl, sym, ap}
-use Rattle.std.proofs.Common.{subst, ◌∙◌, true≢false, length-append, length-drop, drop-drop}
+use Rattle.std.proofs.Common.{subst, ◌∙◌, length-append, length-drop, drop-drop}
 use Rattle.std.proofs.lemmas.Bool.{false≢true}
 use Rattle.std.proofs.Math.Bool.{and-eq-true_iff}
 use Rattle.std.proofs.Math.ListN.{length-take}
 use Rattle.std.proofs.Math.Seq.{take-append_seam, drop-cons}
-use borrow.Author.Tests.{eqb-true, eq-eqb, leb-true, le-leb, ltb-true}
+use borrow.Author.Tests.{eqb-true, eq-eqb, leb-true, le-leb}
 use Rattle.laws.specs.Memory.{outcome, over}
-use Rattle.laws.specs.Test.{pick}
 use Rattle.frame.specs.EndToEnd.{cut_from}
 use Rattle.frame.specs.Recognition.{recognised}
 use Rattle.frame.proofs.RecognitionLaws.{open_most}
@@ -25,7 +25,6 @@ use Rattle.line_terms.proofs.FramesFew.{bytes_in, frames-kept-few}
 use Rattle.line.specs.Receiver.{kept_bytes, within_range, reading_with, keeping, called}
 use Rattle.line.specs.declared.Receiver.{Receiver}
 use Rattle.line.specs.declared.Received.{Received}
-use Rattle.line.specs.declared.Answer.TheVariants.{Delivered}
 use Rattle.energy.specs.declared.Energies.{Energies}
 use Rattle.meter.specs.declared.Meter.{Meter}
 use Rattle.replay_frames.specs.Putting.{meter_after, replies_to}
@@ -36,7 +35,6 @@ use Rattle.trace.proofs.FrontCases.{FrontCase, front_case, case_front}
 use Rattle.trace.proofs.FrontCases as case
 use Rattle.trace.specs.declared.TraceRecord.{TraceRecord}
 use Rattle.trace.specs.declared.TraceRecord.TheVariants as records
-use Rattle.trace.specs.declared.Front.TheVariants as front
 use Rattle.replay.specs.Replay.{Play, state_of, heard_play, host_play, host_call, played, played_all}
 use Rattle.replay.proofs.PlayLaws.{call-says, call-keeps, call-size, call-cuts, delivers-most, heard-delivered}
 use Rattle.replay.proofs.StateLaws.{all_then, all_one}
@@ -102,7 +100,7 @@ module _ (block : List ℕ) (at : ℕ) where
       let same : slice_index_or block at 0 ≡ kind = eqb-true (slice_index block at) kind both.1 in
       (omega arith, drop-cons block at 0 (omega arith) ∙ ap (λ (k : ℕ). k ∷ drop (suc at) block) same)
 
-  byte-stands : stands_at block at 1 2 ≡ true → front_of (drop at block) ≡ front.Good (records.Byte (slice_index block (at + 1))) 2
+  byte-stands : stands_at block at 1 2 ≡ true → front_of (drop at block) ≡ found_record (records.Byte (slice_index block (at + 1))) 2
   byte-stands e =
       let there = stands-front (omega arith) e in
       let next : suc at ≡ at + 1 = omega arith in
@@ -110,16 +108,16 @@ module _ (block : List ℕ) (at : ℕ) where
       (there.1 ∙ ap (λ (l : List ℕ). 1 ∷ l) (drop-cons block (suc at) 0 (omega (arith, there.0)) ∙ ap (λ (k : ℕ). slice_index block k ∷ drop (suc (suc at)) block) next))
       ∙ case_front case.byte
 
-  silence-stands : stands_at block at 2 1 ≡ true → front_of (drop at block) ≡ front.Good records.Silence 1
+  silence-stands : stands_at block at 2 1 ≡ true → front_of (drop at block) ≡ found_record records.Silence 1
   silence-stands e = ap front_of (stands-front (omega arith) e).1 ∙ case_front case.silence
 
   -- Where neither does, a good record is a call of the host.
-  pub host-stands : {r : TraceRecord} {n : ℕ} → NoneStands block at → front_of (drop at block) ≡ front.Good r n → (s : ReplayState) →
+  pub host-stands : {r : TraceRecord} {n : ℕ} → NoneStands block at → front_of (drop at block) ≡ found_record r n → (s : ReplayState) →
       played r s ≡ host_play (host_call r s)
   unfolding played
   host-stands none-stands good = by refl (front_case good)
     where
-      by : {rest : List ℕ} {r : TraceRecord} {n : ℕ} → drop at block ≡ rest → FrontCase rest (front.Good r n) → (s : ReplayState) → played r s ≡ host_play (host_call r s)
+      by : {rest : List ℕ} {r : TraceRecord} {n : ℕ} → drop at block ≡ rest → FrontCase rest (found_record r n) → (s : ReplayState) → played r s ≡ host_play (host_call r s)
       by here case.byte s = absurd (false≢true (sym none-stands.no_byte ∙ front-stands here (omega arith) (omega arith)))
       by here case.silence s = absurd (false≢true (sym none-stands.no_silence ∙ front-stands here (omega arith) (omega arith)))
       by here (case.pulse low least most) s = refl
@@ -138,7 +136,7 @@ heard_as {block} {start} {at} {r = r} {frames = frames} {received = received} e 
 
 -- Nothing yet.
 pub heard-none : {block : List ℕ} {start : ℕ} {r : Receiver} {frames : List ℕ} → CanHear block start r frames →
-    HeardOn block start r frames (heard_so (record { receiver = r; answer = Delivered 0 0 }) start 0)
+    HeardOn block start r frames (heard_so (record { receiver = r; answer = handed 0 0 }) start 0)
 unfolding played_all meter_after replies_to cut_from
 heard-none can =
     record {
@@ -159,7 +157,7 @@ heard-none can =
 
 -- One symbol, which a record at the place is.
 module _ {block : List ℕ} {at : ℕ} {r : Receiver} {frames : List ℕ} {symbol-record : TraceRecord} {n : ℕ} {received : Received} {left : List ℕ} (x : Symbol)
-    (can : CanHear block at r frames) (good : front_of (drop at block) ≡ front.Good symbol-record n)
+    (can : CanHear block at r frames) (good : front_of (drop at block) ≡ found_record symbol-record n)
     (is-heard : (s : ReplayState) → played symbol-record s ≡ heard_play x s) (long : 2 * bytes_in (x ∷ []) ≤ n)
     (e : outcome received left ≡ called x r frames) where
   heard-symbol : HeardOn block at r left (heard_so received (at + n) 1)
@@ -219,32 +217,6 @@ module _ {block : List ℕ} {start : ℕ} {r : Receiver} {frames left : List ℕ
         on = b.on;
       }
 
--- What has delivered something has heard something.
-pub quiet_none : {block : List ℕ} {start : ℕ} {r : Receiver} {frames : List ℕ} {heard : Heard} → HeardOn block start r frames heard → heard.at ≡ start →
-    is_quiet heard.received.answer ≡ true
-quiet_none h back = elim (dec_lt 0 h.bytes) [
-  | yes some ↦ absurd (omega (arith, h.later some, h.from, back))
-  | no few ↦ ap is_quiet h.answer ∙ eq-eqb h.bytes 0 (omega arith)
-]
-
--- By the two tests of a place: neither stands there, or what is heard from there on ends later.
-pub none-stands : {block : List ℕ} {at : ℕ} → (stands_at block at 1 2 || stands_at block at 2 1) ≡ false → NoneStands block at
-none-stands {block} {at} e = by (stands_at block at 1 2) (stands_at block at 2 1) refl refl e
-  where
-    by : (a b : Bool) → stands_at block at 1 2 ≡ a → stands_at block at 2 1 ≡ b → (a || b) ≡ false → NoneStands block at
-    by false false no_byte no_silence e = record { no_byte = no_byte; no_silence = no_silence }
-    by false true no_byte silence e = absurd (true≢false e)
-    by true b byte any e = absurd (true≢false e)
-
-pub heard-later : {block : List ℕ} {start : ℕ} {r : Receiver} {frames : List ℕ} {heard : Heard} → HeardOn block start r frames heard →
-    (heard.at ≡ start → NoneStands block start) → (stands_at block start 1 2 || stands_at block start 2 1) ≡ true → start < heard.at
-heard-later {start = start} {heard = heard} h stops e = elim (dec_lt start heard.at) [
-  | yes later ↦ later
-  | no same ↦
-      let none-there = stops (omega (arith, h.from)) in
-      absurd (false≢true (sym (λ i. none-there.no_byte i || none-there.no_silence i) ∙ e))
-]
-
 -- A byte, and a silence, behind what delivered nothing.
 module _ {block : List ℕ} {start : ℕ} {r : Receiver} {frames left : List ℕ} {heard : Heard} {received : Received} (a : HeardOn block start r frames heard)
     (quiet : is_quiet heard.received.answer ≡ true) where
@@ -258,18 +230,3 @@ module _ {block : List ℕ} {start : ℕ} {r : Receiver} {frames left : List ℕ
       HeardOn block start r left (heard_so received (heard.at + 1) (heard.records + 1))
   unfolding played bytes_in
   hears-silence there e = heard-then a quiet (heard-symbol symbol.silence a.on (silence-stands block heard.at there) (λ s. refl) (omega arith) e)
-
--- How many rounds are left at most: one for each byte left, and one while the loop goes on.
-unfoldable pub rounds_left : List ℕ → ℕ → Bool → ℕ
-rounds_left block at going = (length block - at) + pick going 1 0
-
--- A round leaves fewer.
-pub round-less : (block : List ℕ) (before after : ℕ) (quiet : Bool) → before ≤ after → after ≤ length block →
-    rounds_left block after (quiet && nat_lt before after) < rounds_left block before true
-unfolding rounds_left
-round-less block before after quiet later within = by quiet (nat_lt before after) refl
-  where
-    by : (quiet t : Bool) → nat_lt before after ≡ t → (length block - after) + pick (quiet && t) 1 0 < (length block - before) + 1
-    by true true e = let less : before < after = ltb-true before after e in omega arith
-    by true false e = omega arith
-    by false t e = omega arith

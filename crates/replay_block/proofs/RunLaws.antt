@@ -1,10 +1,11 @@
 -- Laws of playing the records of a block: nothing played, some and then more, a call of the host, and what was heard.
-use Rattle.std.specs.Prelude.{◌≡◌, ℕ, ◌+◌, ◌-◌, ◌*◌, ◌%◌, ◌^◌, ◌<◌, ◌≤◌, Bool, true, false, List, [], ◌∷◌, ◌++◌, length, take, drop, ◌≢◌, nat_lt, refl}
-use Rattle.std.proofs.Common.{arith, sym, subst, ◌∙◌, append-nil, append_assoc, length-drop, ltb-true, take_at, drop-drop}
+use Rattle.frame.specs.declared.refusal.Refusal.{Refusal}
+use Rattle.line.specs.Answer.{handed}
+use Rattle.trace.specs.Front.{found_record}
+use Rattle.std.specs.Prelude.{◌≡◌, ℕ, ◌+◌, ◌-◌, ◌*◌, ◌%◌, ◌^◌, ◌<◌, ◌≤◌, true, List, [], ◌∷◌, ◌++◌, length, take, drop, ◌≢◌, refl, Err}
+use Rattle.std.proofs.Common.{arith, sym, subst, ◌∙◌, append-nil, append_assoc, length-drop, take_at, drop-drop}
 use Rattle.std.proofs.Math.Path.{ap}
-use Rattle.std.proofs.lemmas.Bool.{false≢true}
 use Rattle.std.proofs.Math.ListN.{length-append}
-use Rattle.laws.specs.Test.{pick}
 use Rattle.std.proofs.Math.Seq.{length-take-le}
 use borrow.Author.Rules.{part_to_end}
 use Rattle.laws.specs.Memory.{over}
@@ -16,10 +17,8 @@ use Rattle.trace.specs.Records.{ReadsAs, none, next}
 use Rattle.trace.proofs.TraceLaws.{reads_then, good-within, good-size}
 use Rattle.trace.specs.declared.TraceRecord.{TraceRecord}
 use Rattle.trace.specs.declared.TraceRecord.TheVariants as records
-use Rattle.trace.specs.declared.Front.TheVariants as front
 use Rattle.laws.specs.TestLaws.{pick_cases}
 use Rattle.line.specs.declared.Receiver.{Receiver}
-use Rattle.line.specs.declared.Answer.TheVariants.{Delivered, Refused as ReceiverRefused}
 use Rattle.energy.specs.declared.Energies.{Energies}
 use Rattle.meter.specs.Meter.{MeterSized, within_ranges}
 use Rattle.meter.proofs.Ranges as meter
@@ -180,7 +179,7 @@ host-keeps r s within sized = by r
     by records.Settle = record { receiver = refl; within = again _ _ (kept calls.settle); sized = sized }
 
 -- A call of the host.
-pub host-goes : {r : TraceRecord} {n : ℕ} {block : List ℕ} {run : Run} → front_of (drop run.at block) ≡ front.Good r n →
+pub host-goes : {r : TraceRecord} {n : ℕ} {block : List ℕ} {run : Run} → front_of (drop run.at block) ≡ found_record r n →
     ((s : ReplayState) → played r s ≡ host_play (host_call r s)) →
     QuietTurn block run (record { session = went_by run.session (host_call r run.session.state) n 1 0 0; at = run.at + n; text = run.text })
 unfolding lines_of went_by
@@ -331,43 +330,8 @@ module _ {block memory : List ℕ} {run : Run} {heard : Heard} {frames : List �
 pub none-turns : {block memory : List ℕ} {run : Run} → Ready block run memory → Stops (drop run.at block) → Turns block run run memory memory
 none-turns ready stop = record { goes = goes_nowhere ready; stops = λ same. stop }
 
-pub ended-stops : (rest : List ℕ) → front_of rest ≡ front.Ended → Stops rest
-ended-stops rest e r n good = let z : ◌≡◌ {A = ℕ} 0 1 = cc (e, good) in omega arith
-
-pub refused-stops : {k : ℕ} (rest : List ℕ) → front_of rest ≡ front.Refused k → Stops rest
-refused-stops rest e r n good = let z : ◌≡◌ {A = ℕ} 0 1 = cc (e, good) in omega arith
-
--- How far the loop has come: what it has played, and whether it goes on.
-pub record Running (block : List ℕ) (first run : Run) (lent left : List ℕ) (going : Bool) : Type 0 where
-  pub ready : Ready block first lent
-  pub goes : Goes block first run lent left
-  pub stops : going ≡ false → Stops (drop run.at block)
-
-pub running_start : {block memory : List ℕ} {run : Run} → Ready block run memory → Running block run run memory memory true
-running_start ready = record { ready = ready; goes = goes_nowhere ready; stops = λ e. absurd (false≢true (sym e)) }
-
-pub running_next : {block lent left left₂ : List ℕ} {first run after : Run} {going : Bool} → Running block first run lent left true →
-    Turns block run after left left₂ → (going ≡ false → after.at ≤ run.at) → Running block first after lent left₂ going
-running_next {block} {run = run} {after = after} r t last =
-    record {
-      ready = r.ready;
-      goes = goes_then r.ready r.goes t.goes;
-      stops = λ e.
-          let same : after.at ≡ run.at = omega (arith, last e, t.goes.from) in
-          subst (λ (k : ℕ). Stops (drop k block)) (sym same) (t.stops same);
-    }
-
--- What is left falls: of the block, or, where nothing was played, the turn that was to come.
-pub running_less : (block : List ℕ) (before after : ℕ) → before ≤ after → after ≤ length block →
-    2 * (length block - after) + pick (nat_lt before after) 1 0 < 2 * (length block - before) + 1
-running_less block before after later within = by (nat_lt before after) refl
-  where
-    by : (t : Bool) → nat_lt before after ≡ t → 2 * (length block - after) + pick t 1 0 < 2 * (length block - before) + 1
-    by true e = let less : before < after = ltb-true before after e in omega arith
-    by false e = omega arith
-
 -- A delivery is no refusal.
-pub not-delivered : {bytes count n : ℕ} → Delivered bytes count ≢ ReceiverRefused n
+pub not-delivered : {bytes count : ℕ} {n : Refusal} → handed bytes count ≢ Err n
 not-delivered e = let z : ◌≡◌ {A = ℕ} 0 1 = cc in omega arith
 
 -- A turn that ends with the same session and the same text.

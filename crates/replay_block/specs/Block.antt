@@ -1,13 +1,15 @@
 -- A trace replayed in blocks: what a block comes to.
-use Rattle.std.specs.Prelude.{ℕ, zero, suc, ◌+◌, ◌-◌, ◌*◌, ◌%◌, ◌^◌, Bool, true, false, List, [], ◌∷◌, length, take, ◌==◌, ◌≢◌, nat_le}
+use Rattle.std.specs.Prelude.{ℕ, zero, suc, ◌+◌, ◌-◌, ◌*◌, ◌%◌, ◌^◌, Bool, true, false, List, [], ◌∷◌, length, take, ◌==◌, ◌≢◌, nat_le, Err, None, Ok, Option, Result, Some}
+use Rattle.frame.specs.declared.refusal.Refusal.{Refusal}
+use Rattle.trace.specs.Front.{found_record}
+use Rattle.trace.specs.declared.RecordFound.{RecordFound}
 use Rattle.laws.specs.Memory.{over}
 use Rattle.laws.specs.Test.{pick}
-use Rattle.frame.specs.Refusals.{short_memory, out_of_range, cut_off}
+use Rattle.frame.specs.Refusals.{number_of}
+use Rattle.frame.specs.declared.refusal.Refusal.TheVariants.{ShortMemory, OutOfRange, CutOff}
 use Rattle.listing.specs.Lines.{lines_of}
 use Rattle.trace.specs.Trace.{front_of}
 use Rattle.trace.specs.declared.TraceRecord.{TraceRecord}
-use Rattle.trace.specs.declared.Front.{Front}
-use Rattle.trace.specs.declared.Front.TheVariants as front
 use Rattle.replay.specs.Replay.{Play, is_within, started, played_all}
 use Rattle.replay.specs.declared.ReplayState.{ReplayState}
 use Rattle.replay_block.specs.declared.Session.{Session}
@@ -25,10 +27,10 @@ begun address =
     }
 
 -- By what stands at the front: a good record and those behind it, or none.
-abbrev pub records_by : Front → (ℕ → List TraceRecord) → List TraceRecord
-records_by front.Ended from = []
-records_by (front.Refused n) from = []
-records_by (front.Good r n) from = r ∷ from n
+abbrev pub records_by : Result (Option RecordFound) Refusal → (ℕ → List TraceRecord) → List TraceRecord
+records_by (Ok None) from = []
+records_by (Err n) from = []
+records_by (Ok (Some f)) from = f.found ∷ from f.length
 
 -- The good records of a block, read one by one from the left up to the first that is none; the first k bytes belong to a record that is read already.
 unfoldable pub records_from : ℕ → List ℕ → List TraceRecord
@@ -40,10 +42,10 @@ abbrev pub records_in : List ℕ → List TraceRecord
 records_in block = records_from 0 block
 
 -- What is left of the block behind them.
-abbrev pub rest_by : Front → List ℕ → (ℕ → List ℕ) → List ℕ
-rest_by front.Ended block from = block
-rest_by (front.Refused n) block from = block
-rest_by (front.Good r n) block from = from n
+abbrev pub rest_by : Result (Option RecordFound) Refusal → List ℕ → (ℕ → List ℕ) → List ℕ
+rest_by (Ok None) block from = block
+rest_by (Err n) block from = block
+rest_by (Ok (Some f)) block from = from f.length
 
 unfoldable pub rest_from : ℕ → List ℕ → List ℕ
 rest_from k [] = []
@@ -55,7 +57,7 @@ rest_in block = rest_from 0 block
 
 -- No good record stands at the front.
 abbrev pub Stops : List ℕ → Type 0
-Stops rest = (r : TraceRecord) (n : ℕ) → front_of rest ≢ front.Good r n
+Stops rest = (r : TraceRecord) (n : ℕ) → front_of rest ≢ found_record r n
 
 -- A number that counts on, modulo 2^64.
 unfoldable pub counted : ℕ → ℕ → ℕ
@@ -77,15 +79,15 @@ abbrev pub went_on : Session → List TraceRecord → Play → ℕ → Session
 went_on s records p bytes = went_by s p.state bytes (length records) (length p.frames) (length p.replies)
 
 -- Whether the replay stops at what stands at the front of the rest: at any refusal but a record that is cut off, and at that too where the trace has ended.
-abbrev pub is_stop : Front → Bool → Bool
-is_stop front.Ended ended = false
-is_stop (front.Refused n) ended = pick (n == cut_off) ended true
-is_stop (front.Good r n) ended = false
+abbrev pub is_stop : Result (Option RecordFound) Refusal → Bool → Bool
+is_stop (Ok None) ended = false
+is_stop (Err n) ended = pick (number_of n == number_of CutOff) ended true
+is_stop (Ok (Some f)) ended = false
 
-abbrev pub refusal_of : Front → ℕ
-refusal_of front.Ended = 0
-refusal_of (front.Refused n) = n
-refusal_of (front.Good r n) = 0
+abbrev pub refusal_of : Result (Option RecordFound) Refusal → ℕ
+refusal_of (Ok None) = 0
+refusal_of (Err n) = number_of n
+refusal_of (Ok (Some f)) = 0
 
 -- An answer with the session, the trace's buffer and the memory lent for the text, as they stand when the call returns.
 pub record BlockOutcome : Type 0 where
@@ -122,6 +124,6 @@ block_replayed kept read s buffer text =
     (pick (nat_le (kept + read) (length buffer))
     (pick (nat_le (8192 + 18 * (kept + read)) (length text))
     (block_played (take (kept + read) buffer) (read == 0) s buffer text)
-    (block_outcome s (Refused short_memory) buffer text))
-    (block_outcome s (Refused short_memory) buffer text))
-    (block_outcome s (Refused out_of_range) buffer text)
+    (block_outcome s (Refused (number_of ShortMemory)) buffer text))
+    (block_outcome s (Refused (number_of ShortMemory)) buffer text))
+    (block_outcome s (Refused (number_of OutOfRange)) buffer text)

@@ -1,10 +1,11 @@
 -- Bytes and silences of a block heard one after the other, as long as nothing is delivered.
-use Rattle.std.specs.Prelude.{◌≡◌, ℕ, ◌+◌, ◌-◌, ◌*◌, ◌<◌, ◌≤◌, Bool, true, false, ◌&&◌, List, length, take, drop, ◌==◌, nat_le, slice_index}
+use Rattle.std.specs.Prelude.{◌≡◌, ℕ, ◌+◌, ◌-◌, ◌*◌, ◌<◌, ◌≤◌, Bool, true, false, ◌&&◌, List, length, take, drop, ◌==◌, nat_le, slice_index, Err, Result, Ok}
+use Rattle.frame.specs.declared.refusal.Refusal.{Refusal}
+use Rattle.line.specs.Answer.{handed}
+use Rattle.line.specs.declared.Delivered.{Delivered}
 use Rattle.frame.specs.EndToEnd.{cut}
 use Rattle.line.specs.Receiver.{within_range}
 use Rattle.line.specs.declared.Receiver.{Receiver}
-use Rattle.line.specs.declared.Answer.{Answer}
-use Rattle.line.specs.declared.Answer.TheVariants.{Refused, Delivered}
 use Rattle.energy.specs.declared.Energies.{Energies}
 use Rattle.meter.specs.declared.Meter.{Meter}
 use Rattle.trace.specs.Records.{ReadsAs}
@@ -23,9 +24,9 @@ pub record NoneStands (block : List ℕ) (at : ℕ) : Type 0 where
   pub no_silence : stands_at block at 2 1 ≡ false
 
 -- Nothing was delivered.
-abbrev pub is_quiet : Answer → Bool
-is_quiet (Refused n) = false
-is_quiet (Delivered bytes count) = bytes == 0
+abbrev pub is_quiet : Result Delivered Refusal → Bool
+is_quiet (Err n) = false
+is_quiet (Ok d) = d.bytes == 0
 
 -- The receiver is within its range, the place within the block, and there is room for what a call delivers.
 pub record CanHear (block : List ℕ) (start : ℕ) (r : Receiver) (frames : List ℕ) : Type 0 where
@@ -42,7 +43,7 @@ pub record HeardOn (block : List ℕ) (start : ℕ) (r : Receiver) (frames : Lis
   pub from : start + heard.records ≤ heard.at
   pub bytes : ℕ
   pub frame-count : ℕ
-  pub answer : heard.received.answer ≡ Delivered bytes frame-count
+  pub answer : heard.received.answer ≡ handed bytes frame-count
   pub later : 0 < bytes → 0 < heard.records
   pub cuts : frame-count ≡ length (cut (take bytes frames))
   pub size : bytes ≤ length frames

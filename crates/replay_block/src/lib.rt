@@ -5,15 +5,15 @@
 mod hear;
 mod run;
 
-ghost use Rattle.std.specs.Prelude.{◌≡◌, ◌+◌, ◌-◌, ◌≤◌, length, take, drop};
+ghost use Rattle.std.specs.Prelude.{◌≡◌, true, false, MatchOption, ◌+◌, ◌-◌, ◌≤◌, length, take, drop};
 ghost use Rattle.laws.specs.Memory.{outcome, over};
+ghost use Rattle.frame.specs.Refusals.{number_of};
 ghost use Rattle.replay_block.specs.Block.{begun, is_stop, refusal_of, block_outcome, block_replayed};
 
-use frame::refusal::{CUT_OFF, OUT_OF_RANGE, SHORT_MEMORY};
-use meter_counting::HostAnswer;
-use replay::{ReplayState, STEP_MEMORY, is_within};
-use run::run_on;
-use trace::{Front, record_at};
+use frame::refusal::Refusal;
+use replay::{ReplayState, STEP_MEMORY, Started, is_within};
+use run::{Run, run_on};
+use trace::{RecordFound, record_at};
 
 // How many bytes of text a byte of a block can come to, besides what the receiver keeps before it.
 pub const TEXT_OF_A_TRACE_BYTE: usize = 18;
@@ -34,10 +34,10 @@ pub struct Session {
 #[derive(Clone, Copy)]
 pub struct Begun {
     pub session: Session,
-    pub answer: HostAnswer,
+    pub answer: Result<(), Refusal>,
 }
 
-// The answer to a block.
+// The answer to a block. It has the number of a refusal: `replay_end::last_message` takes one with any number, and `Refusal` would be narrower.
 #[derive(Clone, Copy)]
 pub enum BlockAnswer {
     // A refusal, by the papers' number: nothing is played, and nothing changed.
@@ -58,12 +58,11 @@ pub struct BlockPlayed {
 }
 
 // A session of an address, at the first record of a trace; 8 for an address that is not good.
+#[tactic(auto, unfolding(crate::specs::Block::begun))]
 pub fn begin(address: [u8; 6]) -> Begun
     ensures { result ≡ begun address }
 {
-    let started = replay::start(address);
-    let state = started.state;
-    let answer = started.answer;
+    let Started { state, answer, .. } = replay::start(address);
     Begun {
         session: Session {
             state,
@@ -77,59 +76,34 @@ pub fn begin(address: [u8; 6]) -> Begun
 }
 
 // A refusal: the session as it was.
-fn refused(session: Session, refusal: u8) -> BlockPlayed
-    ensures { result ≡ record { session = session; answer = BlockAnswer.Refused refusal } }
+fn refused(session: Session, refusal: Refusal) -> BlockPlayed
+    ensures { result ≡ record { session = session; answer = BlockAnswer.Refused (number_of refusal) } }
 {
     BlockPlayed {
         session,
-        answer: BlockAnswer::Refused(refusal),
+        answer: BlockAnswer::Refused(refusal.number()),
     }
 }
 
-// Whether the replay stops at what stands at the front of the rest: at any refusal but a record that is cut off, and at that too where the
-// trace has ended.
-fn is_stop(front: Front, ended: bool) -> bool
-    ensures { result ≡ is_stop front ended }
+// The refusal at which the replay stops, of what stands at the front of the rest: any refusal but that of a record that is cut off, and that too where
+// the trace has ended.
+fn stop(front: Result<Option<RecordFound>, Refusal>, ended: bool) -> Option<u8>
+    ensures { MatchOption result (is_stop front ended ≡ false) (λ n. (is_stop front ended ≡ true) × (refusal_of front ≡ n)) }
 {
     match front {
-        Front::Ended => false,
-        Front::Refused(refusal) => {
-            if refusal == CUT_OFF {
-                return ended;
-            }
-            true
-        }
-        Front::Good {
-            found: _,
-            length: _,
-        } => false,
+        Err(Refusal::CutOff) if !ended => None,
+        Err(refusal) => Some(refusal.number()),
+        Ok(_) => None,
     }
 }
 
-// The number of a refusal at the front of the rest, or 0.
-fn refusal_of(front: Front) -> u8
-    ensures { result ≡ refusal_of front }
-{
-    match front {
-        Front::Ended => 0,
-        Front::Refused(refusal) => refusal,
-        Front::Good {
-            found: _,
-            length: _,
-        } => 0,
-    }
-}
-
-// Moves the bytes from `at` up to `end`, at most 6, to the front, and returns how many there are.
+// Moves the bytes from `at` up to `end` to the front, and returns how many there are.
 fn keep(buffer: &mut [u8], at: usize, end: usize) -> usize
-    requires { (at ≤ end) × (end ≤ length buffer.old) × (end ≤ at + 6) }
+    requires { (at ≤ end) × (end ≤ length buffer.old) }
     ensures { outcome result buffer.new ≡ outcome (end - at) (over (take (end - at) (drop at buffer.old)) buffer.old) }
 {
-    let mut rest = [0u8; 6];
-    let count = end - at;
-    slice_bytes::copy(&buffer[at..end], &mut rest);
-    slice_bytes::copy(&rest[..count], buffer);
-    count
+    buffer.copy_within(at..end, 0);
+    end - at
 }
 
 // Plays the first `kept` bytes of the buffer, those of a record that was not whole, and the `read` bytes behind them as a block of the trace, and
@@ -145,43 +119,31 @@ pub fn play_block(
 ) -> BlockPlayed
     ensures { block_outcome result.session result.answer buffer.new text.new ≡ block_replayed kept read session buffer.old text.old }
 {
-    let state = session.state;
-    if !is_within(state) {
-        return refused(session, OUT_OF_RANGE);
+    if !is_within(session.state) {
+        return refused(session, Refusal::OutOfRange);
     }
-    if buffer.len() < kept {
-        return refused(session, SHORT_MEMORY);
-    }
-    if buffer.len() - kept < read {
-        return refused(session, SHORT_MEMORY);
+    if buffer.len() < kept || buffer.len() - kept < read {
+        return refused(session, Refusal::ShortMemory);
     }
     let end = kept + read;
-    if text.len() < STEP_MEMORY {
-        return refused(session, SHORT_MEMORY);
+    if text.len() < STEP_MEMORY || (text.len() - STEP_MEMORY) / TEXT_OF_A_TRACE_BYTE < end {
+        return refused(session, Refusal::ShortMemory);
     }
-    if (text.len() - STEP_MEMORY) / TEXT_OF_A_TRACE_BYTE < end {
-        return refused(session, SHORT_MEMORY);
-    }
-    let run = run_on(&buffer[..end], session, text);
-    let at = run.at;
-    let used = run.text;
-    let after = run.session;
+    let Run {
+        session,
+        at,
+        text: used,
+    } = run_on(&buffer[..end], session, text);
     let front = record_at(&buffer[..end], at);
-    if is_stop(front, read == 0) {
-        return BlockPlayed {
-            session: after,
-            answer: BlockAnswer::Stopped {
-                refusal: refusal_of(front),
-                text: used,
-            },
-        };
-    }
-    let left = keep(buffer, at, end);
-    BlockPlayed {
-        session: after,
-        answer: BlockAnswer::Played {
+    let answer = match stop(front, read == 0) {
+        Some(refusal) => BlockAnswer::Stopped {
+            refusal,
             text: used,
-            kept: left,
         },
-    }
+        None => BlockAnswer::Played {
+            text: used,
+            kept: keep(buffer, at, end),
+        },
+    };
+    BlockPlayed { session, answer }
 }

@@ -8,12 +8,11 @@ ghost use Rattle.replay_block.specs.Run.{run_at, Ready, Turns, PlaysAll, QuietTu
 use crate::Session;
 use crate::hear::{Heard, hear_on, stands_at};
 use frame::MOST_FRAME;
-use line::Answer;
 use replay::ReplayState;
 use replay::host::host_call;
-use replay_frames::{PutAnswer, put_frames};
+use replay_frames::{FramesPut, put_frames};
 use std::num::wrapping_add_u64;
-use trace::{Front, record_at};
+use trace::record_at;
 
 // How far the records of a block are played: the session, the place of the next record in the block, and how many bytes of text are written.
 #[derive(Clone, Copy)]
@@ -23,23 +22,26 @@ pub(crate) struct Run {
     pub text: usize,
 }
 
-// The session with another state, so many bytes further, with so many records, frames and replies more.
-fn went_on(
-    session: Session,
-    state: ReplayState,
+// What records come to: how many bytes and how many records they are, how many frames are put to the meter, and how many replies it gives.
+#[derive(Clone, Copy)]
+struct Counts {
     bytes: usize,
     records: usize,
     frames: usize,
     replies: usize,
-) -> Session
-    ensures { result ≡ went_by session state bytes records frames replies }
+}
+
+// The session with another state, gone on by what records come to.
+#[tactic(auto, unfolding(crate::specs::Block::went_by, crate::specs::Block::counted))]
+fn went_on(session: Session, state: ReplayState, by: Counts) -> Session
+    ensures { result ≡ went_by session state by.bytes by.records by.frames by.replies }
 {
     Session {
         state,
-        place: wrapping_add_u64(session.place, bytes as u64),
-        records: wrapping_add_u64(session.records, records as u64),
-        frames: wrapping_add_u64(session.frames, frames as u64),
-        replies: wrapping_add_u64(session.replies, replies as u64),
+        place: wrapping_add_u64(session.place, by.bytes as u64),
+        records: wrapping_add_u64(session.records, by.records as u64),
+        frames: wrapping_add_u64(session.frames, by.frames as u64),
+        replies: wrapping_add_u64(session.replies, by.replies as u64),
     }
 }
 
@@ -48,37 +50,43 @@ fn put_heard(block: &[u8], run: Run, heard: Heard, frames: &[u8], out: &mut [u8]
     requires { Ready block.now run out.old × HeardOn block.now run.at run.session.state.receiver frames.now heard × (run.at < heard.at) }
     ensures { Turns block.now run result out.old out.new }
 {
-    let session = run.session;
-    let state = session.state;
-    let meter = state.meter;
-    let energies = state.energies;
-    let received = heard.received;
-    let receiver = received.receiver;
-    let answer = received.answer;
-    let Answer::Delivered {
-        bytes,
-        frames: count,
-    } = answer
-    else {
+    let Heard {
+        received,
+        at,
+        records,
+    } = heard;
+    let Ok(delivered) = received.answer else {
         return run;
     };
-    let used = run.text;
-    let put = put_frames(meter, energies, &frames[..bytes], &mut out[used..]);
-    let after = put.meter;
-    let said = put.answer;
-    let PutAnswer::Put { text, lines } = said else {
+    let ReplayState {
+        meter,
+        energies,
+        ..
+    } = run.session.state;
+    let FramesPut { meter, answer } = put_frames(
+        meter,
+        energies,
+        &frames[..delivered.bytes],
+        &mut out[run.text..],
+    );
+    let Ok(put) = answer else {
         return run;
     };
     let state = ReplayState {
-        receiver,
-        meter: after,
+        receiver: received.receiver,
+        meter,
         energies,
     };
-    let at = heard.at;
+    let by = Counts {
+        bytes: at - run.at,
+        records,
+        frames: delivered.frames,
+        replies: put.lines,
+    };
     Run {
-        session: went_on(session, state, at - run.at, heard.records, count, lines),
+        session: went_on(run.session, state, by),
         at,
-        text: used + text,
+        text: run.text + put.text,
     }
 }
 
@@ -87,22 +95,22 @@ fn host_turn(block: &[u8], run: Run) -> Run
     requires { NoneStands block.now run.at }
     ensures { QuietTurn block.now run result }
 {
-    let at = run.at;
-    let front = record_at(block, at);
-    match front {
-        Front::Ended => run,
-        Front::Refused(_) => run,
-        Front::Good { found, length } => {
-            let next = at + length;
-            let session = run.session;
-            let state = session.state;
-            let after = host_call(state, found);
+    match record_at(block, run.at) {
+        Ok(Some(record)) => {
+            let by = Counts {
+                bytes: record.length,
+                records: 1,
+                frames: 0,
+                replies: 0,
+            };
             Run {
-                session: went_on(session, after, length, 1, 0, 0),
-                at: next,
+                session: went_on(run.session, host_call(run.session.state, record.found), by),
+                at: run.at + record.length,
                 text: run.text,
             }
         }
+        Ok(None) => run,
+        Err(_) => run,
     }
 }
 
@@ -111,18 +119,12 @@ fn turn(block: &[u8], run: Run, out: &mut [u8]) -> Run
     requires { Ready block.now run out.old }
     ensures { Turns block.now run result out.old out.new }
 {
-    let at = run.at;
-    let byte = stands_at(block, at, 1, 2);
-    let silence = stands_at(block, at, 2, 1);
-    if !(byte | silence) {
-        return host_turn(block, run);
+    if stands_at(block, run.at, 1, 2) || stands_at(block, run.at, 2, 1) {
+        let mut frames = [0u8; MOST_FRAME];
+        let heard = hear_on(block, run.at, run.session.state.receiver, &mut frames);
+        return put_heard(block, run, heard, &frames, out);
     }
-    let mut frames = [0u8; MOST_FRAME];
-    let session = run.session;
-    let state = session.state;
-    let receiver = state.receiver;
-    let heard = hear_on(block, at, receiver, &mut frames);
-    put_heard(block, run, heard, &frames, out)
+    host_turn(block, run)
 }
 
 // Plays the good records of a block from its first on, and writes the lines of their replies to the front of the output buffer.
@@ -135,12 +137,11 @@ pub(crate) fn run_on(block: &[u8], session: Session, out: &mut [u8]) -> Run
         at: 0,
         text: 0,
     };
-    let mut going = true;
-    while going {
+    loop {
         let next = turn(block, run, out);
-        let before = run.at;
+        if next.at == run.at {
+            return next;
+        }
         run = next;
-        going = before < run.at;
     }
-    run
 }

@@ -1,12 +1,13 @@
 -- What is said at the end of a replay in words: where the last block stopped, the number with which its record is refused, and how many bytes the
 -- records before it have; the same of a block that is refused; where the trace has ended, how many records it is, how many frames were put to the
 -- meter and how many replies given by hand.
-use Rattle.std.specs.Prelude.{ℕ, ◌%◌, ◌≡◌, refl, true, ◌↔◌, List, [], ◌∷◌, ◌++◌, length}
+use Rattle.frame.specs.Refusals.{number_of}
+use Rattle.frame.specs.declared.refusal.Refusal.{Refusal}
+use Rattle.std.specs.Prelude.{ℕ, ◌%◌, ◌≡◌, refl, true, ◌↔◌, List, [], ◌∷◌, ◌++◌, length, Err}
 use Rattle.std.proofs.Common.{arith, sym, ap, subst, ◌∙◌, append-nil, eqb-true, eq-eqb}
 use Rattle.item_address.specs.Address.{Good}
 use Rattle.trace.specs.Trace.{front_of}
 use Rattle.trace.specs.Records.{written}
-use Rattle.trace.specs.declared.Front.TheVariants as front
 use Rattle.replay.specs.ByHand.{HandTurn, ByHand, hand_start, frames_put_in, replies_given}
 use Rattle.replay_block.specs.Block.{begun}
 use Rattle.replay_block.proofs.BlockCalls.{BlockCall, BlockCalls, OfBytes, kept_by, trace_of, kept_after, session_after}
@@ -36,7 +37,7 @@ pub record SaysTheEnd (address : List ℕ) (calls : List BlockCall) (c : BlockCa
   pub refused : (n : ℕ) → c.returned.answer ≡ Refused n →
       Line (last_text address calls c) (n ∷ length (written blocks.records) % 18446744073709551616 ∷ [])
   pub stopped : (n text : ℕ) → c.returned.answer ≡ Stopped n text →
-      (front_of (kept_after [] calls) ≡ front.Refused n)
+      ((k : Refusal) × (front_of (kept_after [] calls) ≡ Err k) × (number_of k ≡ n))
       × Line (last_text address calls c) (n ∷ length (written blocks.records) % 18446744073709551616 ∷ [])
   -- where a block that is played is the last, the records played are the whole trace; and how many they are, the frames put to the meter and the
   -- replies given by hand
@@ -61,7 +62,7 @@ end-says address calls earlier c six good bytes h e =
       blocks = blocks;
       refused = λ n no. rw (no, ← blocks.place) (message_says (BadRecord n s.place));
       stopped = λ n text stop. (
-        subst (λ (l : List ℕ). front_of l ≡ front.Refused n) left (stops_at (blocks.each earlier c [] e).right stop),
+        subst (λ (l : List ℕ). (k : Refusal) × (front_of l ≡ Err k) × (number_of k ≡ n)) left (stops_at (blocks.each earlier c [] e).right stop),
         rw (stop, ← blocks.place) (message_says (BadRecord n s.place)),
       );
       whole = λ text kept play last.

@@ -14,11 +14,8 @@ pub fn is_last(answer: BlockAnswer, read: usize) -> bool
 {
     match answer {
         BlockAnswer::Refused(_) => true,
-        BlockAnswer::Played { text: _, kept: _ } => read == 0,
-        BlockAnswer::Stopped {
-            refusal: _,
-            text: _,
-        } => true,
+        BlockAnswer::Played { .. } => read == 0,
+        BlockAnswer::Stopped { .. } => true,
     }
 }
 
@@ -30,11 +27,11 @@ pub fn last_message(answer: BlockAnswer, session: Session) -> Message
     let place = session.place;
     match answer {
         BlockAnswer::Refused(refusal) => Message::BadRecord { refusal, place },
-        BlockAnswer::Played { text: _, kept: _ } => Message::Replayed {
+        BlockAnswer::Played { .. } => Message::Replayed {
             records: session.records,
             frames: session.frames,
             replies: session.replies,
         },
-        BlockAnswer::Stopped { refusal, text: _ } => Message::BadRecord { refusal, place },
+        BlockAnswer::Stopped { refusal, .. } => Message::BadRecord { refusal, place },
     }
 }

@@ -1,5 +1,6 @@
 -- Whatever memory is lent for its reply, a frame is answered alike.
 use Rattle.std.specs.Prelude.{ℕ, ◌+◌, ◌≤◌, ◌≡◌, refl, Bool, true, false, List, length, take, drop, replicate, leb}
+use Rattle.frame.specs.declared.refusal.Refusal.TheVariants.{NotOneFrame, OutOfRange, ShortMemory}
 use Rattle.std.proofs.lemmas.Bool.{false≢true}
 use Rattle.std.proofs.Common.{take_at, le-leb}
 use Rattle.laws.specs.Memory.{Outcome, over}
@@ -7,7 +8,6 @@ use Rattle.laws.specs.Test.{pick}
 use Rattle.frame.specs.Frame.{frame_for, most_frame}
 use Rattle.frame.proofs.FrameLaws.{frame-for-length}
 use Rattle.frame.specs.Recognition.{exactly_one}
-use Rattle.frame.specs.Refusals.{short_memory, not_one_frame, out_of_range}
 use Rattle.energy.specs.Energies.{Rows}
 use Rattle.meter.specs.Meter.{MeterSized, within_ranges}
 use Rattle.meter.specs.Answer.{Treatment, silent, replies, treated, refused, delivered, answered}
@@ -45,9 +45,9 @@ put-lent bytes m forward reverse sized memory room =
     by ranges enough one memory =
         pick ranges
         (pick enough
-        (pick one (delivered (treated bytes m forward reverse) m memory) (refused not_one_frame m memory))
-        (refused short_memory m memory))
-        (refused out_of_range m memory)
+        (pick one (delivered (treated bytes m forward reverse) m memory) (refused NotOneFrame m memory))
+        (refused ShortMemory m memory))
+        (refused OutOfRange m memory)
 
     go : (ranges enough one : Bool) → enough ≡ true → MeterSized (by ranges enough one memory).answer.meter
         → Alike (by ranges enough one memory) (by ranges true one (replicate most_frame 0))

@@ -1,6 +1,8 @@
 -- Laws of frames put to a meter: a reply is one frame and so is what it replies to, the meter keeps its size and its ranges, and the lines of the
 -- replies are at most 35 times as long as the frames.
-use Rattle.std.specs.Prelude.{ℕ, zero, suc, ◌+◌, ◌*◌, ◌≤◌, ◌≡◌, take, drop, replicate, eqb}
+use Rattle.laws.specs.ResultLaws.{ok_same}
+use Rattle.std.specs.Prelude.{ℕ, zero, suc, ◌+◌, ◌*◌, ◌≤◌, ◌≡◌, take, drop, replicate, eqb, Err, Ok, Result}
+use Rattle.frame.specs.declared.refusal.Refusal.{Refusal}
 use Rattle.std.proofs.Math.Path.{refl}
 use Rattle.std.proofs.Common.{sym, ap, ◌∙◌, length-append, take-append-drop}
 use mathlib.Core.List.{List, [], ◌∷◌, ◌++◌, append-nil, append_assoc}
@@ -24,8 +26,6 @@ use Rattle.meter.proofs.Calls.{after, frame, keeps-within}
 use Rattle.meter.specs.Answer.{reply_data, value_asked, delivered, answered}
 use Rattle.meter.proofs.AnswerLaws.{Answers, refuses, errs, carries, answers, not-replied}
 use Rattle.meter.proofs.Replies.{reply-from-own}
-use Rattle.meter.specs.declared.FrameAnswer.{FrameAnswer}
-use Rattle.meter.specs.declared.FrameAnswer.TheVariants as frames
 use Rattle.meter.specs.declared.Meter.{Meter}
 use Rattle.replay_frames.specs.Putting.{reply_in, put, reply_to, meter_after, replies_to}
 
@@ -38,9 +38,9 @@ line-most {f} w =
     omega (arith, text-length f (frame-spans w), frame-spans w, frame-most w)
 
 -- There is at most one reply.
-pub reply-few : (answer : FrameAnswer) (memory : List ℕ) → length (reply_in answer memory) ≤ 1
-reply-few (frames.Replied n) memory = omega arith
-reply-few (frames.Refused n) memory = omega arith
+pub reply-few : (answer : Result ℕ Refusal) (memory : List ℕ) → length (reply_in answer memory) ≤ 1
+reply-few (Ok n) memory = omega arith
+reply-few (Err n) memory = omega arith
 
 module _ (bytes : List ℕ) (m : Meter) (forward reverse : Rows) where
   -- A frame leaves a meter within its ranges.
@@ -70,16 +70,16 @@ module _ (bytes : List ℕ) (m : Meter) (forward reverse : Rows) where
       pub reply : Frame (take n (put bytes m forward reverse).memory)
       pub most : n ≤ most_frame
 
-    pub replied-with : {n : ℕ} → (put bytes m forward reverse).answer.answer ≡ frames.Replied n → RepliedWith n
+    pub replied-with : {n : ℕ} → (put bytes m forward reverse).answer.answer ≡ Ok n → RepliedWith n
     unfolding put delivered
     replied-with {n} h = go (answers bytes m forward reverse (replicate most_frame 0))
       where
         whole : Frame (take n (answered bytes m forward reverse (replicate most_frame 0)).memory)
         whole = (reply-from-own bytes m forward reverse (replicate most_frame 0) n sized h).whole
 
-        fits : (payload : List ℕ) → length payload ≤ 200 → frames.Replied (12 + length payload) ≡ frames.Replied n → n ≤ most_frame
+        fits : (payload : List ℕ) → length payload ≤ 200 → ◌≡◌ {A = Result ℕ Refusal} (Ok (12 + length payload)) (Ok n) → n ≤ most_frame
         fits payload most said =
-            let size : 12 + length payload ≡ n = cc in
+            let size : 12 + length payload ≡ n = ok_same said in
             omega arith
 
         go : Answers bytes m forward reverse (replicate most_frame 0) → RepliedWith n
@@ -98,20 +98,20 @@ module _ (bytes : List ℕ) (m : Meter) (forward reverse : Rows) where
     pub reply-frame : AllOf Frame (reply_to bytes m forward reverse)
     reply-frame = go (put bytes m forward reverse).answer.answer refl
       where
-        go : (answer : FrameAnswer) → (put bytes m forward reverse).answer.answer ≡ answer → AllOf Frame (reply_in answer (put bytes m forward reverse).memory)
-        go (frames.Replied n) e = ((replied-with e).reply, tt)
-        go (frames.Refused n) e = tt
+        go : (answer : Result ℕ Refusal) → (put bytes m forward reverse).answer.answer ≡ answer → AllOf Frame (reply_in answer (put bytes m forward reverse).memory)
+        go (Ok n) e = ((replied-with e).reply, tt)
+        go (Err n) e = tt
 
     -- Its line is at most 35 times as long as the frame: 417 bytes for at least 12.
     pub reply-text : length (lines_of (reply_to bytes m forward reverse)) ≤ 35 * length bytes
     unfolding lines_of
     reply-text = go (put bytes m forward reverse).answer.answer refl reply-frame
       where
-        go : (answer : FrameAnswer) → (put bytes m forward reverse).answer.answer ≡ answer → AllOf Frame (reply_in answer (put bytes m forward reverse).memory)
+        go : (answer : Result ℕ Refusal) → (put bytes m forward reverse).answer.answer ≡ answer → AllOf Frame (reply_in answer (put bytes m forward reverse).memory)
             → length (lines_of (reply_in answer (put bytes m forward reverse).memory)) ≤ 35 * length bytes
-        go (frames.Replied n) e w =
+        go (Ok n) e w =
             rw append-nil (omega (arith, line-most w.0, frame-least (replied-with e).asked))
-        go (frames.Refused n) e w = omega arith
+        go (Err n) e w = omega arith
 
 -- Frames leave a meter its size.
 pub after-sized : (fs : List (List ℕ)) (m : Meter) (forward reverse : Rows) → MeterSized m → MeterSized (meter_after fs m forward reverse)

@@ -1,5 +1,8 @@
 -- What frames put to a meter come to, in words: each is put to the meter that the one before left, a reply gives one line, and silence none.
-use Rattle.std.specs.Prelude.{ℕ, ◌*◌, ◌≤◌, ◌<◌, ◌≡◌, refl, List, [], ◌∷◌, ◌++◌, true, ◌↔◌, length, take}
+use Rattle.frame.specs.declared.refusal.Refusal.TheVariants.{OutOfRange, ShortMemory}
+use Rattle.std.specs.Prelude.{ℕ, ◌*◌, ◌≤◌, ◌<◌, ◌≡◌, refl, List, [], ◌∷◌, ◌++◌, true, ◌↔◌, length, take, Err, Ok, Result}
+use Rattle.frame.specs.declared.refusal.Refusal.{Refusal}
+use Rattle.replay_frames.specs.PutAnswer.{lines_put}
 use Rattle.std.proofs.Common.{ap, le-leb}
 use Rattle.std.proofs.lemmas.Bool.{lt-leb}
 use Rattle.laws.specs.All.{AllOf}
@@ -13,21 +16,18 @@ use Rattle.energy.specs.declared.Energies.{Energies}
 use Rattle.listing.specs.Lines.{lines_of}
 use Rattle.meter.specs.Meter.{within_ranges}
 use Rattle.meter.proofs.Ranges.{InRanges, within-ranges}
-use Rattle.meter.specs.declared.FrameAnswer.{FrameAnswer}
-use Rattle.meter.specs.declared.FrameAnswer.TheVariants as frames
 use Rattle.meter.specs.declared.Meter.{Meter}
 use Rattle.replay_frames.specs.Putting.{reply_in, put, reply_to, meter_after, replies_to, refused_put, all_put, frames_put}
 use Rattle.replay_frames.proofs.PuttingLaws.{meter-append, replies-append}
-use Rattle.replay_frames.specs.declared.PutAnswer.TheVariants.{Put}
 
-module _ (f : List ℕ) (m : Meter) (forward reverse : Rows) {n : ℕ} where
+module _ (f : List ℕ) (m : Meter) (forward reverse : Rows) where
   -- A silent frame has no reply, and so no line.
-  pub silent_no_line : (put f m forward reverse).answer.answer ≡ frames.Refused n → reply_to f m forward reverse ≡ []
-  silent_no_line e = ap (λ (a : FrameAnswer). reply_in a (put f m forward reverse).memory) e
+  pub silent_no_line : {n : Refusal} → (put f m forward reverse).answer.answer ≡ Err n → reply_to f m forward reverse ≡ []
+  silent_no_line e = ap (λ (a : Result ℕ Refusal). reply_in a (put f m forward reverse).memory) e
 
   -- A frame that is replied to has one reply: what stands at the front of the memory.
-  pub replied-line : (put f m forward reverse).answer.answer ≡ frames.Replied n → reply_to f m forward reverse ≡ take n (put f m forward reverse).memory ∷ []
-  replied-line e = ap (λ (a : FrameAnswer). reply_in a (put f m forward reverse).memory) e
+  pub replied-line : {n : ℕ} → (put f m forward reverse).answer.answer ≡ Ok n → reply_to f m forward reverse ≡ take n (put f m forward reverse).memory ∷ []
+  replied-line e = ap (λ (a : Result ℕ Refusal). reply_in a (put f m forward reverse).memory) e
 
 -- One frame among others: the replies to those before it, its own from the meter that they left, and those to the frames behind it.
 pub record AtFrame (fs earlier : List (List ℕ)) (f : List ℕ) (later : List (List ℕ)) (m : Meter) (forward reverse : Rows) : Type 0 where
@@ -51,9 +51,9 @@ put_in_order earlier f later m forward reverse e =
 -- what stands at the front of the memory.
 pub data InOrder (forward reverse : Rows) : List (List ℕ) → Meter → List (List ℕ) → Meter → Type 0 where
   last : {m : Meter} → InOrder forward reverse [] m [] m
-  silent : {f : List ℕ} {fs replies : List (List ℕ)} {m after : Meter} (n : ℕ) → (put f m forward reverse).answer.answer ≡ frames.Refused n
+  silent : {f : List ℕ} {fs replies : List (List ℕ)} {m after : Meter} (n : Refusal) → (put f m forward reverse).answer.answer ≡ Err n
       → InOrder forward reverse fs (put f m forward reverse).answer.meter replies after → InOrder forward reverse (f ∷ fs) m replies after
-  replied : {f : List ℕ} {fs replies : List (List ℕ)} {m after : Meter} (n : ℕ) → (put f m forward reverse).answer.answer ≡ frames.Replied n
+  replied : {f : List ℕ} {fs replies : List (List ℕ)} {m after : Meter} (n : ℕ) → (put f m forward reverse).answer.answer ≡ Ok n
       → InOrder forward reverse fs (put f m forward reverse).answer.meter replies after
       → InOrder forward reverse (f ∷ fs) m (take n (put f m forward reverse).memory ∷ replies) after
 
@@ -65,11 +65,11 @@ in_order forward reverse [] m = last
 in_order forward reverse (f ∷ fs) m =
     go (put f m forward reverse).answer.answer refl (in_order forward reverse fs (put f m forward reverse).answer.meter)
   where
-    go : (answer : FrameAnswer) → (put f m forward reverse).answer.answer ≡ answer → {replies : List (List ℕ)} {after : Meter}
+    go : (answer : Result ℕ Refusal) → (put f m forward reverse).answer.answer ≡ answer → {replies : List (List ℕ)} {after : Meter}
         → InOrder forward reverse fs (put f m forward reverse).answer.meter replies after
         → InOrder forward reverse (f ∷ fs) m (reply_in answer (put f m forward reverse).memory ++ replies) after
-    go (frames.Replied n) e rest = replied n e rest
-    go (frames.Refused n) e rest = silent n e rest
+    go (Ok n) e rest = replied n e rest
+    go (Err n) e rest = silent n e rest
 
 -- Bytes that stand end to end are cut into frames.
 cut-frames : {bytes : List ℕ} → EndToEnd bytes → AllOf Frame (cut bytes)
@@ -91,13 +91,13 @@ pub record AllListed (bytes : List ℕ) (m : Meter) (energies : Energies) (memor
   pub frames : EndToEnd bytes → AllOf Frame (cut bytes)
   pub whole : EndToEnd bytes → behind_each_other (cut bytes) ≡ bytes
   pub result : frames_put bytes m energies memory
-      ≡ outcome (record { meter = after; answer = Put (length (lines_of replies)) (length replies) }) (over (lines_of replies) memory)
+      ≡ outcome (record { meter = after; answer = lines_put (length (lines_of replies)) (length replies) }) (over (lines_of replies) memory)
 
 -- Out of its ranges the meter is refused with 16; then too little memory with 1; else all the frames are put.
 pub record FramesPutWords (bytes : List ℕ) (m : Meter) (energies : Energies) (memory : List ℕ) : Type 0 where
-  pub out_of_range_lem : (InRanges m energies.forward energies.reverse → ⊥) → frames_put bytes m energies memory ≡ outcome (refused_put 16 m) memory
+  pub out_of_range_lem : (InRanges m energies.forward energies.reverse → ⊥) → frames_put bytes m energies memory ≡ outcome (refused_put OutOfRange m) memory
   pub short-memory : InRanges m energies.forward energies.reverse → length memory < 35 * length bytes
-      → frames_put bytes m energies memory ≡ outcome (refused_put 1 m) memory
+      → frames_put bytes m energies memory ≡ outcome (refused_put ShortMemory m) memory
   pub listed : InRanges m energies.forward energies.reverse → 35 * length bytes ≤ length memory → AllListed bytes m energies memory
 
 -- So it is for all bytes, meters and memory.

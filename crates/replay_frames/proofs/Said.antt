@@ -1,5 +1,9 @@
 -- What the papers say of the answer to frames put to a meter, when they are refused, and that meter and memory are then as they were.
-use Rattle.std.specs.Prelude.{ℕ, ◌*◌, ◌≤◌, ◌<◌, ◌≡◌, List, [], ◌∷◌, true, ◌↔◌, ◌⊎◌, length, leb}
+use Rattle.std.specs.Prelude.{ℕ, ◌*◌, ◌≤◌, ◌<◌, ◌≡◌, List, [], ◌∷◌, true, ◌↔◌, ◌⊎◌, length, leb, Err, Result, Ok}
+use Rattle.frame.specs.Refusals.{number_of}
+use Rattle.frame.specs.declared.refusal.Refusal.{Refusal}
+use Rattle.replay_frames.specs.PutAnswer.{lines_put}
+use Rattle.replay_frames.specs.declared.LinesPut.{LinesPut}
 use Rattle.std.proofs.Common.{sym, ◌∙◌, inl, inr, arith, leb-true, leb-false}
 use Rattle.std.proofs.lemmas.Bool.{false≢true}
 use Rattle.laws.specs.Memory.{Outcome}
@@ -11,13 +15,11 @@ use Rattle.meter.proofs.Ranges.{InRanges, within-ranges}
 use Rattle.meter.specs.declared.Meter.{Meter}
 use Rattle.replay_frames.specs.Putting.{all_put, frames_put}
 use Rattle.replay_frames.specs.declared.FramesPut.{FramesPut}
-use Rattle.replay_frames.specs.declared.PutAnswer.{PutAnswer}
-use Rattle.replay_frames.specs.declared.PutAnswer.TheVariants.{Refused, Put}
 
 -- How many bytes of text and how many lines, or a refusal.
-abbrev pub put_said : PutAnswer → Said
-put_said (Refused n) = refusal n
-put_said (Put text lines) = values (text ∷ lines ∷ [])
+abbrev pub put_said : Result LinesPut Refusal → Said
+put_said (Err n) = refusal (number_of n)
+put_said (Ok put) = values (put.text ∷ put.lines ∷ [])
 
 -- The meter is not within its ranges, or the memory has under 35 bytes for each byte of the frames.
 abbrev pub CannotPut : List ℕ → Meter → Energies → List ℕ → Type 0

@@ -1,5 +1,6 @@
 -- How far putting frames to a meter has come: before the first frame, by one frame more, and after the last.
 use Prim.Native.Nat.{ℕ, ◌+◌, ◌-◌, ◌*◌, ◌≤◌, ◌<◌}
+use Rattle.replay_frames.specs.PutAnswer.{lines_put}
 use Rattle.std.specs.Prelude.{◌≡◌, refl}
 use Rattle.std.proofs.Math.Path.{ap, sym}
 use Rattle.std.proofs.Common.{◌∙◌, arith, length-append, length-drop, drop_of_length-le, length-take-le}
@@ -20,7 +21,6 @@ use Rattle.replay_frames.proofs.CutLaws.{cut-from}
 use Rattle.replay_frames.specs.Putting.{put, reply_to, meter_after, replies_to, one_put, all_put}
 use Rattle.replay_frames.proofs.PuttingLaws.{put-sized, reply-few, reply-text, meter-append, replies-append}
 use Rattle.replay_frames.specs.declared.OnePut.{OnePut}
-use Rattle.replay_frames.specs.declared.PutAnswer.TheVariants.{Put}
 
 -- The frames before `at` are put: the meter is the one after them, and the lines of their replies stand over the front of the memory.
 pub record Progress (bytes : List ℕ) (m₀ : Meter) (forward reverse : Rows) (out₀ out : List ℕ) (m : Meter) (at used lines : ℕ) : Type 0 where
@@ -147,7 +147,7 @@ module _ {bytes : List ℕ} {m₀ : Meter} {forward reverse : Rows} {out₀ out 
 -- After the last turn all the frames are put.
 pub progress_end : {bytes : List ℕ} {m₀ : Meter} {forward reverse : Rows} {out₀ out : List ℕ} {m : Meter} {at used lines : ℕ}
     → Progress bytes m₀ forward reverse out₀ out m at used lines → length bytes ≤ at
-    → outcome (record { meter = m; answer = Put used lines }) out ≡ all_put (cut bytes) m₀ forward reverse out₀
+    → outcome (record { meter = m; answer = lines_put used lines }) out ≡ all_put (cut bytes) m₀ forward reverse out₀
 unfolding cut_from all_put
 progress_end {bytes} {m₀} {forward} {reverse} {out₀} {out} {m} {at} {used} {lines} p h =
     let none : drop at bytes ≡ [] = drop_of_length-le bytes h in

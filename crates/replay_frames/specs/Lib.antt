@@ -1,1 +1,2 @@
+pub mod PutAnswer
 pub mod Putting

@@ -1,28 +1,27 @@
 -- Frames put to a meter one after the other: document 02, W1, "sends each frame handed on to the meter, and lists each reply as the listing program
 -- does".
-use Rattle.std.specs.Prelude.{ℕ, ◌*◌, List, [], ◌∷◌, ◌++◌, length, take, replicate, leb}
+use Rattle.std.specs.Prelude.{ℕ, ◌*◌, List, [], ◌∷◌, ◌++◌, length, take, replicate, leb, Err, Ok, Result}
+use Rattle.frame.specs.declared.refusal.Refusal.{Refusal}
+use Rattle.frame.specs.declared.refusal.Refusal.TheVariants.{OutOfRange, ShortMemory}
+use Rattle.replay_frames.specs.PutAnswer.{lines_put}
 use Rattle.laws.specs.Memory.{Outcome, outcome, over}
 use Rattle.laws.specs.Test.{pick}
 use Rattle.frame.specs.Frame.{most_frame}
 use Rattle.frame.specs.EndToEnd.{cut}
-use Rattle.frame.specs.Refusals.{short_memory, out_of_range}
 use Rattle.energy.specs.Energies.{Rows}
 use Rattle.energy.specs.declared.Energies.{Energies}
 use Rattle.listing.specs.Lines.{lines_of}
 use Rattle.meter.specs.Meter.{within_ranges}
 use Rattle.meter.specs.Answer.{answered}
 use Rattle.meter.specs.declared.Answered.{Answered}
-use Rattle.meter.specs.declared.FrameAnswer.{FrameAnswer}
-use Rattle.meter.specs.declared.FrameAnswer.TheVariants as frames
 use Rattle.meter.specs.declared.Meter.{Meter}
 use Rattle.replay_frames.specs.declared.FramesPut.{FramesPut}
 use Rattle.replay_frames.specs.declared.OnePut.{OnePut}
-use Rattle.replay_frames.specs.declared.PutAnswer.TheVariants.{Refused, Put}
 
 -- The reply that an answer gives, from the front of its memory; silence gives none.
-abbrev pub reply_in : FrameAnswer → List ℕ → List (List ℕ)
-reply_in (frames.Replied n) memory = take n memory ∷ []
-reply_in (frames.Refused n) memory = []
+abbrev pub reply_in : Result ℕ Refusal → List ℕ → List (List ℕ)
+reply_in (Ok n) memory = take n memory ∷ []
+reply_in (Err n) memory = []
 
 -- One frame put to a meter, with 212 bytes for the reply.
 unfoldable pub put : List ℕ → Meter → Rows → Rows → Outcome Answered
@@ -53,9 +52,9 @@ one_put frame m forward reverse memory =
     })
     (over (lines_of (reply_to frame m forward reverse)) memory)
 
--- A refusal: its number, and the meter as before.
-abbrev pub refused_put : ℕ → Meter → FramesPut
-refused_put n m = record { meter = m; answer = Refused n }
+-- A refusal, and the meter as before.
+abbrev pub refused_put : Refusal → Meter → FramesPut
+refused_put n m = record { meter = m; answer = Err n }
 
 -- These frames put to a meter: how many bytes of text and how many lines, and the lines over the front of the memory.
 unfoldable pub all_put : List (List ℕ) → Meter → Rows → Rows → List ℕ → Outcome FramesPut
@@ -63,7 +62,7 @@ all_put fs m forward reverse memory =
     outcome
     (record {
       meter = meter_after fs m forward reverse;
-      answer = Put (length (lines_of (replies_to fs m forward reverse))) (length (replies_to fs m forward reverse));
+      answer = lines_put (length (lines_of (replies_to fs m forward reverse))) (length (replies_to fs m forward reverse));
     })
     (over (lines_of (replies_to fs m forward reverse)) memory)
 
@@ -73,5 +72,5 @@ frames_put bytes m energies memory =
     pick (within_ranges m energies.forward energies.reverse)
     (pick (leb (35 * length bytes) (length memory))
     (all_put (cut bytes) m energies.forward energies.reverse memory)
-    (outcome (refused_put short_memory m) memory))
-    (outcome (refused_put out_of_range m) memory)
+    (outcome (refused_put ShortMemory m) memory))
+    (outcome (refused_put OutOfRange m) memory)

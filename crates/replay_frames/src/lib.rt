@@ -6,30 +6,27 @@ ghost use Rattle.std.specs.Prelude.{◌≡◌, ◌*◌, ◌≤◌, length};
 ghost use Rattle.laws.specs.Memory.{outcome};
 ghost use Rattle.replay_frames.specs.Putting.{refused_put, one_put, frames_put};
 
-use energy::{Energies, Rows};
+use energy::Energies;
 use frame::MOST_FRAME;
 use frame::delivery::next_end;
-use frame::refusal::{OUT_OF_RANGE, SHORT_MEMORY};
-use listing::Listed;
-use meter::{FrameAnswer, Meter};
+use frame::refusal::Refusal;
+use meter::Meter;
 
 // How many bytes of text a byte of a frame can come to: a reply has at most 212 bytes, its line at most 417, and a frame at least 12.
 pub const TEXT_OF_A_FRAME_BYTE: usize = 35;
 
-// The answer to frames put to a meter.
+// How many bytes of text, and how many lines, stand at the front of the output buffer.
 #[derive(Clone, Copy)]
-pub enum PutAnswer {
-    // A refusal, by document 01's number: no frame was put, and nothing changed.
-    Refused(u8),
-    // How many bytes of text, and how many lines, stand at the front of the output buffer.
-    Put { text: usize, lines: usize },
+pub struct LinesPut {
+    pub text: usize,
+    pub lines: usize,
 }
 
-// The meter after the frames, with the answer.
+// The meter after the frames, with the answer. With a refusal no frame was put, and nothing changed.
 #[derive(Clone, Copy)]
 pub struct FramesPut {
     pub meter: Meter,
-    pub answer: PutAnswer,
+    pub answer: Result<LinesPut, Refusal>,
 }
 
 // The meter after one frame, and the bytes and the number of the lines written for it.
@@ -41,32 +38,32 @@ struct OnePut {
 }
 
 // A refusal: the meter as it was.
-fn refused(meter: Meter, refusal: u8) -> FramesPut
+fn refused(meter: Meter, refusal: Refusal) -> FramesPut
     ensures { result ≡ refused_put refusal meter }
 {
     FramesPut {
         meter,
-        answer: PutAnswer::Refused(refusal),
+        answer: Err(refusal),
     }
 }
 
 // One frame put to a meter: the line of its reply, where there is one, is written to the front of the output buffer.
-fn put_frame(meter: Meter, forward: Rows, reverse: Rows, frame: &[u8], out: &mut [u8]) -> OnePut
+fn put_frame(meter: Meter, energies: Energies, frame: &[u8], out: &mut [u8]) -> OnePut
     requires { 35 * length frame.now ≤ length out.old }
-    ensures { outcome result out.new ≡ one_put frame.now meter forward reverse out.old }
+    ensures { outcome result out.new ≡ one_put frame.now meter energies.forward energies.reverse out.old }
 {
     let mut reply = [0u8; MOST_FRAME];
-    let answered = meter.answer(forward, reverse, frame, &mut reply);
+    let answered = meter.answer(energies, frame, &mut reply);
     let after = answered.meter;
     let answer = answered.answer;
     match answer {
-        FrameAnswer::Refused(_) => OnePut {
+        Err(_) => OnePut {
             meter: after,
             text: 0,
             lines: 0,
         },
-        FrameAnswer::Replied(n) => {
-            let Listed::Length(text) = listing::list_frame(&reply[..n], out) else {
+        Ok(n) => {
+            let Ok(text) = listing::list_frame(&reply[..n], out) else {
                 return OnePut {
                     meter: after,
                     text: 0,
@@ -88,27 +85,20 @@ fn put_frame(meter: Meter, forward: Rows, reverse: Rows, frame: &[u8], out: &mut
 pub fn put_frames(meter: Meter, energies: Energies, frames: &[u8], out: &mut [u8]) -> FramesPut
     ensures { outcome result out.new ≡ frames_put frames.now meter energies out.old }
 {
-    let forward = energies.forward_rows();
-    let reverse = energies.reverse_rows();
-    if !meter.is_within_ranges(forward, reverse) {
-        return refused(meter, OUT_OF_RANGE);
+    if !meter.is_within_ranges(energies) {
+        return refused(meter, Refusal::OutOfRange);
     }
     if out.len() / TEXT_OF_A_FRAME_BYTE < frames.len() {
-        return refused(meter, SHORT_MEMORY);
+        return refused(meter, Refusal::ShortMemory);
     }
     let mut present = meter;
     let mut at = 0;
     let mut used = 0;
     let mut lines = 0;
+    // The place goes on by a frame's length, which stands in the frame: no loop over an index, and no chunks of one size.
     while at < frames.len() {
         let next = next_end(frames, at);
-        let put = put_frame(
-            present,
-            forward,
-            reverse,
-            &frames[at..next],
-            &mut out[used..],
-        );
+        let put = put_frame(present, energies, &frames[at..next], &mut out[used..]);
         present = put.meter;
         used += put.text;
         lines += put.lines;
@@ -116,6 +106,6 @@ pub fn put_frames(meter: Meter, energies: Energies, frames: &[u8], out: &mut [u8
     }
     FramesPut {
         meter: present,
-        answer: PutAnswer::Put { text: used, lines },
+        answer: Ok(LinesPut { text: used, lines }),
     }
 }

@@ -1,13 +1,13 @@
 -- Laws of texts that are put into a buffer part by part, and written from there.
-use Rattle.std.specs.Prelude.{ℕ, ◌≤◌, ◌<◌, ◌≡◌, List, ◌++◌, length, take}
-use Rattle.std.proofs.Common.{ap, ◌∙◌, arith, length-append}
+use Rattle.std.specs.Prelude.{ℕ, ◌≤◌, ◌<◌, ◌≡◌, List, ◌++◌, length, Some, None}
+use Rattle.std.proofs.Common.{append_assoc, refl, ◌∙◌, arith, length-append}
 use borrow.Author.Tests.{le-leb, lt-leb}
 use Rattle.laws.specs.Memory.{outcome, over}
-use Rattle.laws.specs.Puts.{Puts, puts-part, front-put}
+use Rattle.replay_text.specs.Line.{said, Adds}
+use Rattle.replay_text.specs.declared.put.Line.{Line}
 use Rattle.replay_text.specs.Texts.{writing, reason_text}
 use Rattle.replay_text.specs.declared.Reason.{Reason}
 use Rattle.replay_text.specs.declared.Reason.TheVariants.{Asked, NotOneArgument, BadAddress}
-use Rattle.replay_text.specs.declared.Written.TheVariants.{Length, TooLittleMemory}
 
 -- No reason is longer than this.
 pub reason_most : (reason : Reason) → length (reason_text reason) ≤ 80
@@ -17,17 +17,26 @@ reason_most NotOneArgument = omega arith
 reason_most BadAddress = omega arith
 
 -- A part that is put behind what is put before it.
-pub puts_on : {bytes m left last : List ℕ} {n k : ℕ} (part : List ℕ) → Puts bytes n m left → Puts (take n left ++ part) k left last → Puts (bytes ++ part) k m last
-puts_on {bytes} {n = n} {k = k} part before behind =
-    let joined : k ≡ length (bytes ++ part) = behind.count ∙ ap (λ (l : List ℕ). length (l ++ part)) (front-put before) in
-    puts-part before part k (omega (arith, length-append bytes part, before.count)) behind.memory
+pub adds_on : {a b c : Line} {first second : List ℕ} → Adds a b first → Adds b c second → Adds a c (first ++ second)
+adds_on {first = first} {second = second} before behind =
+    record {
+      end = omega (arith, before.end, behind.end, length-append first second);
+      within = behind.within;
+      text = rw (behind.text, before.text) (append_assoc _ first second);
+    }
 
--- A text that is put into a buffer and copied from there is written; where the memory is shorter, nothing is.
-module _ {text m line : List ℕ} {n : ℕ} (memory : List ℕ) (puts : Puts text n m line) where
-  pub put_written : n ≤ length memory → outcome (Length n) (over (take n line) memory) ≡ writing text memory
-  unfolding writing
-  put_written room = rw (front-put puts, le-leb (length text) (length memory) (omega (arith, puts.count)), puts.count)
+-- A text that is put into a line and copied from there is written; where the memory is shorter, nothing is.
+module _ {text : List ℕ} {start line : Line} (memory : List ℕ) (none : start.end ≡ 0) (puts : Adds start line text) where
+  count : line.end ≡ length text
+  count = omega (arith, puts.end)
 
-  pub put-unwritten : length memory < n → outcome TooLittleMemory memory ≡ writing text memory
+  front : said line ≡ text
+  front = puts.text ∙ rw none refl
+
+  pub put_written : line.end ≤ length memory → outcome (Some line.end) (over (said line) memory) ≡ writing text memory
   unfolding writing
-  put-unwritten short = rw (lt-leb (length text) (length memory) (omega (arith, puts.count)))
+  put_written room = rw (front, le-leb (length text) (length memory) (omega (arith, count)), count)
+
+  pub put-unwritten : length memory < line.end → outcome None memory ≡ writing text memory
+  unfolding writing
+  put-unwritten short = rw (lt-leb (length text) (length memory) (omega (arith, count)))

@@ -8,7 +8,8 @@ use Rattle.std.proofs.lemmas.Bool.{false≢true}
 use Rattle.laws.specs.All.{all_of, AllOf}
 use Rattle.laws.specs.Test.{pick}
 use Rattle.laws.specs.TestLaws.{pick_cases}
-use Rattle.frame.specs.Refusals.{bad_record, cut_off}
+use Rattle.frame.specs.Refusals.{number_of}
+use Rattle.frame.specs.declared.refusal.Refusal.TheVariants as refusals
 use Rattle.replay_address.specs.Digits.{is_digit, worth, spelled, spelled_from, IsDigit, digit-iff}
 use Rattle.replay_text.specs.Decimal.{decimal, decimal_within}
 use Rattle.replay_text.proofs.DecimalLaws.{decimal-digits, decimal-spelled}
@@ -161,8 +162,8 @@ module _ (label : List ℕ) (plain : Plain label) (n : ℕ) {rest numbers : List
 meaning-behind : (refusal : ℕ) → Behind (meaning refusal) []
 unfolding meaning all_of is_plain is_digit
 meaning-behind refusal =
-    pick_cases P (eqb refusal bad_record) (λ unknown. label_behind (quoted ": an unknown kind of record, or a field out of its range") refl (omega arith))
-    (λ other. pick_cases P (eqb refusal cut_off) (λ cut. label_behind (quoted ": the trace ends inside the record") refl (omega arith)) (λ none. newline_behind))
+    pick_cases P (eqb refusal (number_of refusals.BadRecord)) (λ unknown. label_behind (quoted ": an unknown kind of record, or a field out of its range") refl (omega arith))
+    (λ other. pick_cases P (eqb refusal (number_of refusals.CutOff)) (λ cut. label_behind (quoted ": the trace ends inside the record") refl (omega arith)) (λ none. newline_behind))
   where
     P : List ℕ → Type 0
     P text = Behind text []

@@ -1,18 +1,17 @@
 -- Messages as they are written: none is longer than 256 bytes, and in words what a writing leaves.
-use Rattle.std.specs.Prelude.{ℕ, ◌+◌, ◌≤◌, ◌<◌, ◌≡◌, refl, length, take, drop, leb, eqb}
+use Rattle.std.specs.Prelude.{ℕ, ◌+◌, ◌≤◌, ◌<◌, ◌≡◌, refl, length, take, drop, leb, eqb, None, Option, Some}
 use Rattle.std.proofs.Common.{arith, length-append, leb-false}
 use mathlib.Core.List.{List}
 use Rattle.std.proofs.Math.Seq.{take-append_seam, drop-append_seam}
 use Rattle.laws.specs.Memory.{Outcome, over}
 use Rattle.laws.specs.TestLaws.{pick_cases}
-use Rattle.frame.specs.Refusals.{bad_record, cut_off}
+use Rattle.frame.specs.Refusals.{number_of}
+use Rattle.frame.specs.declared.refusal.Refusal.TheVariants as refusals
 use Rattle.replay_text.proofs.DecimalLaws.{decimal-most}
 use Rattle.replay_text.specs.Texts.{quoted, labelled, writing, meaning, refused_text, counts_text, usage, usage_text, message_text}
 use Rattle.replay_text.proofs.TextLaws.{reason_most}
 use Rattle.replay_text.specs.declared.Message.{Message}
 use Rattle.replay_text.specs.declared.Message.TheVariants.{BadRecord, Replayed, Usage}
-use Rattle.replay_text.specs.declared.Written.{Written}
-use Rattle.replay_text.specs.declared.Written.TheVariants.{Length, TooLittleMemory}
 use Rattle.replay_text.proofs.TextWords.{Says, message_says}
 
 -- A label and a number of 64 bits has at most twenty bytes more than the label.
@@ -24,7 +23,7 @@ labelled-most label n small = rw length-append (omega (arith, decimal-most n (om
 meaning-most : (refusal : ℕ) → length (meaning refusal) ≤ 64
 unfolding meaning
 meaning-most refusal =
-    pick_cases Short (eqb refusal bad_record) (λ _. omega arith) (λ _. pick_cases Short (eqb refusal cut_off) (λ _. omega arith) (λ _. omega arith))
+    pick_cases Short (eqb refusal (number_of refusals.BadRecord)) (λ _. omega arith) (λ _. pick_cases Short (eqb refusal (number_of refusals.CutOff)) (λ _. omega arith) (λ _. omega arith))
   where
     Short : List ℕ → Type 0
     Short text = length text ≤ 64
@@ -54,10 +53,10 @@ message_most (Usage reason) _ = rw length-append (omega (arith, reason_most reas
 
 -- What a writing of a message answers and leaves: as many bytes as it says are the message, and what is beyond them is as it was; where the memory is too
 -- short, all of it is as it was, and 256 bytes are never too short.
-pub record WrittenWords (message : Message) (m : List ℕ) (answer : Written) (left : List ℕ) : Type 0 where
-  pub written : (n : ℕ) → answer ≡ Length n → (n ≤ length left) × Says message (take n left) × (drop n left ≡ drop n m)
-  pub unwritten : answer ≡ TooLittleMemory → left ≡ m
-  pub enough : Of64Bits message → 256 ≤ length m → (n : ℕ) × (answer ≡ Length n)
+pub record WrittenWords (message : Message) (m : List ℕ) (answer : Option ℕ) (left : List ℕ) : Type 0 where
+  pub written : (n : ℕ) → answer ≡ Some n → (n ≤ length left) × Says message (take n left) × (drop n left ≡ drop n m)
+  pub unwritten : answer ≡ None → left ≡ m
+  pub enough : Of64Bits message → 256 ≤ length m → (n : ℕ) × (answer ≡ Some n)
 
 pub written-words : (message : Message) (m : List ℕ) → let o = writing (message_text message) m in WrittenWords message m o.answer o.memory
 unfolding writing
@@ -77,5 +76,5 @@ written-words message m =
       enough = λ numbers long. absurd (omega (arith, leb-false (length (message_text message)) (length m) short, message_most message numbers));
     })
   where
-    P : Outcome Written → Type 0
+    P : Outcome (Option ℕ) → Type 0
     P o = WrittenWords message m o.answer o.memory

@@ -1,17 +1,16 @@
 -- What the replay program says beside its listing: a refused record, the counts at the end, and how it is called.
-use Rattle.std.specs.Prelude.{ℕ, List, [], ◌∷◌, ◌++◌, length, leb, eqb}
+use Rattle.std.specs.Prelude.{ℕ, List, [], ◌∷◌, ◌++◌, length, leb, eqb, None, Option, Some}
 use Prim.Native.Char.{code}
 use Prim.Native.String.{String, [] as []ˢ, ◌∷◌ as ◌∷ˢ◌}
 use Rattle.laws.specs.Memory.{Outcome, outcome, over}
 use Rattle.laws.specs.Test.{pick}
-use Rattle.frame.specs.Refusals.{bad_record, cut_off}
+use Rattle.frame.specs.Refusals.{number_of}
+use Rattle.frame.specs.declared.refusal.Refusal.TheVariants as refusals
 use Rattle.replay_text.specs.Decimal.{decimal}
 use Rattle.replay_text.specs.declared.Message.{Message}
 use Rattle.replay_text.specs.declared.Message.TheVariants.{BadRecord, Replayed, Usage}
 use Rattle.replay_text.specs.declared.Reason.{Reason}
 use Rattle.replay_text.specs.declared.Reason.TheVariants.{Asked, NotOneArgument, BadAddress}
-use Rattle.replay_text.specs.declared.Written.{Written}
-use Rattle.replay_text.specs.declared.Written.TheVariants.{Length, TooLittleMemory}
 
 -- The bytes of quoted characters.
 abbrev pub quoted : String → List ℕ
@@ -23,14 +22,14 @@ unfoldable pub labelled : List ℕ → ℕ → List ℕ
 labelled label n = label ++ decimal n
 
 -- A text over the front of the memory; where the memory is shorter, nothing is written.
-unfoldable pub writing : List ℕ → List ℕ → Outcome Written
-writing text m = pick (leb (length text) (length m)) (outcome (Length (length text)) (over text m)) (outcome TooLittleMemory m)
+unfoldable pub writing : List ℕ → List ℕ → Outcome (Option ℕ)
+writing text m = pick (leb (length text) (length m)) (outcome (Some (length text)) (over text m)) (outcome None m)
 
 -- What a refusal of a record means, and the end of the line.
 unfoldable pub meaning : ℕ → List ℕ
 meaning refusal =
-    pick (eqb refusal bad_record) (quoted ": an unknown kind of record, or a field out of its range\n")
-    (pick (eqb refusal cut_off) (quoted ": the trace ends inside the record\n") (quoted "\n"))
+    pick (eqb refusal (number_of refusals.BadRecord)) (quoted ": an unknown kind of record, or a field out of its range\n")
+    (pick (eqb refusal (number_of refusals.CutOff)) (quoted ": the trace ends inside the record\n") (quoted "\n"))
 
 -- The line of a record, or a block, that is refused: the number, the place in the whole trace where the record begins that is not played, and what
 -- the number means of a record.

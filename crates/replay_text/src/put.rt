@@ -1,33 +1,56 @@
-// Parts of a text, put one behind the other in a buffer.
-ghost use Rattle.std.specs.Prelude.{◌++◌, ◌+◌, ◌≤◌, length, take};
-ghost use Rattle.laws.specs.Puts.{Puts};
+// A line that is written part by part.
+ghost use Rattle.std.specs.Prelude.{◌≡◌, ◌+◌, ◌≤◌, [], length};
 ghost use Rattle.replay_text.specs.Decimal.{decimal};
+ghost use Rattle.replay_text.specs.Line.{said, Adds};
 ghost use Rattle.replay_text.specs.Texts.{labelled};
 
-// Puts bytes behind the first `at` bytes of a line, and returns where they end.
-pub(crate) fn put(part: &[u8], at: usize, line: &mut [u8]) -> usize
-    requires { at + length part.now ≤ length line.old }
-    ensures { Puts (take at line.old ++ part.now) result line.old line.new }
-{
-    slice_bytes::copy(part, &mut line[at..]);
-    at + part.len()
+use crate::MESSAGE_MEMORY;
+
+// What is written so far are the first `end` bytes.
+#[derive(Clone, Copy)]
+pub(crate) struct Line {
+    pub(crate) bytes: [u8; MESSAGE_MEMORY],
+    pub(crate) end: usize,
 }
 
-// Puts a number in decimal, which has at most twenty digits, behind the first `at` bytes of a line, and returns where it ends.
-fn put_number(number: u64, at: usize, line: &mut [u8]) -> usize
-    requires { at + 20 ≤ length line.old }
-    ensures { (result ≤ at + 20) × Puts (take at line.old ++ decimal number) result line.old line.new }
-{
-    let mut digits = [0u8; 20];
-    let count = io::decimal(number, &mut digits);
-    put(&digits[..count], at, line)
-}
+impl Line {
+    // A line of which nothing is written.
+    pub(crate) fn new() -> Self
+        ensures { (result.end ≡ 0) × (said result ≡ []) }
+    {
+        Line {
+            bytes: [0; MESSAGE_MEMORY],
+            end: 0,
+        }
+    }
 
-// Puts a label and a number, in decimal, behind the first `at` bytes of a line, and returns where they end.
-pub(crate) fn put_labelled(label: &[u8], number: u64, at: usize, line: &mut [u8]) -> usize
-    requires { at + length label.now + 20 ≤ length line.old }
-    ensures { (result ≤ at + length label.now + 20) × Puts (take at line.old ++ labelled label.now number) result line.old line.new }
-{
-    let next = put(label, at, line);
-    put_number(number, next, line)
+    // Puts bytes behind what is written.
+    pub(crate) fn put(&mut self, part: &[u8])
+        requires { self.old.end + length part.now ≤ 256 }
+        ensures { Adds self.old self.new part.now }
+    {
+        let end = self.end + part.len();
+        self.bytes[self.end..end].copy_from_slice(part);
+        self.end = end;
+    }
+
+    // Puts a number in decimal, which has at most twenty digits.
+    fn put_number(&mut self, number: u64)
+        requires { self.old.end + 20 ≤ 256 }
+        ensures { (self.new.end ≤ self.old.end + 20) × Adds self.old self.new (decimal number) }
+    {
+        let mut digits = [0u8; 20];
+        let count = io::decimal(number, &mut digits);
+        self.put(&digits[..count]);
+    }
+
+    // Puts a label and a number, in decimal.
+    #[tactic(auto, unfolding(crate::specs::Texts::labelled))]
+    pub(crate) fn put_labelled(&mut self, label: &[u8], number: u64)
+        requires { self.old.end + length label.now + 20 ≤ 256 }
+        ensures { (self.new.end ≤ self.old.end + length label.now + 20) × Adds self.old self.new (labelled label.now number) }
+    {
+        self.put(label);
+        self.put_number(number);
+    }
 }

@@ -6,11 +6,10 @@
 
 mod input;
 
-use input::Next;
-use replay_begin::{Opening, begin_with};
+use input::{Failed, Memory};
+use replay_begin::{Beginning, begin_with};
 use replay_block::Session;
-use replay_end::last_message;
-use replay_text::{MESSAGE_MEMORY, Message, Reason, Written};
+use replay_text::{MESSAGE_MEMORY, Message, Reason};
 use std::env::Env;
 use std::io::Write;
 
@@ -18,31 +17,26 @@ use std::io::Write;
 fn say<W: Write>(to: &mut W, message: Message) {
     let mut text = [0u8; MESSAGE_MEMORY];
     let written = replay_text::write_message(message, &mut text);
-    let Written::Length(length) = written else {
-        return;
-    };
-    if MESSAGE_MEMORY < length {
-        return;
+    if let Some(length) = written
+        && let Some(said) = text.get(..length)
+    {
+        let _ = to.write_all(said);
     }
-    let _ = to.write_all(&text[..length]);
 }
 
-// Replays the trace on standard input, and says how it ended. A block and the bytes of a record kept before it, at most 6, are read and played
-// at a time; the text of so many bytes has 8,192 bytes, and 18 for each of them.
+// Replays the trace on standard input, and says how it ended.
 fn replay_input(rt: &HostRuntime, session: Session) {
-    let mut buffer = [0u8; 8198];
-    let mut text = [0u8; 155756];
-    let mut from = rt.stdin();
-    let end = input::replay_all(&mut from, rt.stdout(), session, &mut buffer, &mut text);
-    let next = end.next;
-    let last = end.session;
-    match next {
-        Next::More => {}
-        Next::Last(answer) => say(&mut rt.stderr(), last_message(answer, last)),
-        Next::Unread(error) => {
+    let mut memory = Memory {
+        buffer: [0; 8198],
+        text: [0; 155756],
+    };
+    match memory.replay_all(&mut rt.stdin(), rt.stdout(), session) {
+        Ok(Some(message)) => say(&mut rt.stderr(), message),
+        Ok(None) => {}
+        Err(Failed::Unread(error)) => {
             program_input::say_failed(rt.stderr(), b"replay_trace: standard input", error);
         }
-        Next::Unwritten(error) => {
+        Err(Failed::Unwritten(error)) => {
             program_input::say_failed(rt.stderr(), b"replay_trace: standard output", error);
         }
     }
@@ -56,15 +50,10 @@ fn main(rt: HostRuntime) {
         return;
     }
     let mut word = [0u8; 12];
-    let n = match rt.arg(1, &mut word) {
-        Ok(n) => n,
-        Err(_) => 0,
-    };
-    let beginning = begin_with(words, &word[..n]);
-    let session = beginning.session;
-    let opening = beginning.opening;
+    let n = rt.arg(1, &mut word).unwrap_or(0);
+    let Beginning { session, opening } = begin_with(words, &word[..n]);
     match opening {
-        Opening::Begun => replay_input(&rt, session),
-        Opening::Said(message) => say(&mut rt.stderr(), message),
+        Ok(()) => replay_input(&rt, session),
+        Err(message) => say(&mut rt.stderr(), message),
     }
 }

@@ -1,5 +1,5 @@
 // The walker of a replay: document 02, W1. It holds the lent trace and its place in it; receiver, meter and readings travel beside it as one
-// value. Its functions take it apart, and `replay::step_at` does the work. A program holds no struct with a reference in it, and calls `walk_from`.
+// value. Its functions take it apart, and `replay::step_at` does the work. A program calls `walk_from`.
 // That the replies and the meter at the end are those of the calls made by hand is `walked_by_hand` in proofs/Walked.antt.
 #![tactic(auto)]
 
@@ -16,6 +16,8 @@ pub struct Walker<'a> {
     pub trace: &'a [u8],
     pub at: usize,
 }
+
+// `begin`, `step` and `moved` stand beside the walker and are no methods of it: callers know these three by their names (docs/host.md).
 
 // The walker of a trace, at its first record.
 pub fn begin<'a>(trace: &'a [u8]) -> Walker<'a>
@@ -35,10 +37,7 @@ pub fn step<'a>(walker: Walker<'a>, state: ReplayState, out: &mut [u8]) -> Stepp
 pub fn moved<'a>(walker: Walker<'a>, at: usize) -> Walker<'a>
     ensures { result ≡ moved_to walker.entry at }
 {
-    Walker {
-        trace: walker.trace,
-        at,
-    }
+    Walker { at, ..walker }
 }
 
 // One step over a trace from a place on: a walker of it is made, moved there, and stepped.

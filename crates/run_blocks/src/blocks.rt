@@ -1,108 +1,71 @@
 // The line in blocks, each begun with the rest of the one before.
-ghost use Rattle.std.specs.Prelude.{◌≤◌, ◌<◌};
+ghost use Rattle.std.specs.Prelude.{◌<◌};
 
-use line_block::BlockAnswer;
-use recording::StepAnswer;
-use run_text::heard::Gathered;
+use line_block::BlockRead;
+use recording::StepRead;
+use run_text::heard::{Delivered, Gathered};
 
-// What the steps so far leave: how many bytes are kept at the front of the buffer, and what is gathered.
-#[derive(Clone, Copy)]
+// What a step leaves: how many bytes are kept at the front of the buffer, and what is gathered.
+#[derive(Clone, Copy, Default)]
 struct Progress {
     kept: usize,
     gathered: Gathered,
 }
 
-// After a step that went wrong; nothing is kept.
-fn spoilt() -> Progress {
-    Progress {
-        kept: 0,
-        gathered: Gathered::spoilt(),
+impl Progress {
+    // Reads a part of the line behind what the steps before keep at the front of the buffer; none where the step is refused.
+    fn read(self, part: &[u8], ended: bool, block: &mut [u8], out: &mut [u8]) -> Option<Progress> {
+        let gathered = self.gathered;
+        let n = part.len();
+        let room = out.get_mut(gathered.bytes..)?;
+        let place = block.get_mut(self.kept..)?.get_mut(..n)?;
+        place.copy_from_slice(part);
+        let StepRead {
+            bytes,
+            frames,
+            kept,
+        } = recording::read_step(block, self.kept, n, ended, room).ok()?;
+        Some(Progress {
+            kept,
+            gathered: gathered.and(Gathered { bytes, frames }),
+        })
     }
 }
 
-// The lesser of two numbers that are not zero.
-fn least(a: usize, b: usize) -> usize
-    requires { (0 < a) × (0 < b) }
-    ensures { (0 < result) × (result ≤ b) }
-{
-    if a < b {
-        return a;
-    }
-    b
-}
-
-// Reads a part of the line behind what the steps before keep at the front of the buffer.
-fn read_part(
-    before: Progress,
-    part: &[u8],
-    ended: bool,
-    block: &mut [u8],
-    out: &mut [u8],
-) -> Progress {
-    let kept = before.kept;
-    let gathered = before.gathered;
-    let start = gathered.bytes;
-    if block.len() < kept {
-        return spoilt();
-    }
-    if block.len() - kept < part.len() {
-        return spoilt();
-    }
-    if out.len() < start {
-        return spoilt();
-    }
-    slice_bytes::copy(part, &mut block[kept..]);
-    let answer = recording::read_step(block, kept, part.len(), ended, &mut out[start..]);
-    let StepAnswer::Delivered {
-        bytes,
-        frames,
-        kept: left,
-    } = answer
-    else {
-        return spoilt();
-    };
-    Progress {
-        kept: left,
-        gathered: gathered.more(bytes, frames),
-    }
-}
-
-// Reads the line in blocks that bring `size` bytes each, while more than `last` are left; what is left then comes with the end.
-pub(crate) fn read_blocks(line: &[u8], size: usize, last: usize, out: &mut [u8]) -> Gathered
+// Reads the line in blocks that bring `size` bytes each. The last bytes come with the end, or the end comes in a call of its own.
+pub(crate) fn read_blocks<'a>(
+    line: &[u8],
+    size: usize,
+    with_last: bool,
+    out: &'a mut [u8],
+) -> Option<Delivered<'a>>
     requires { 0 < size }
 {
     let mut block = [0u8; 511];
-    let mut progress = Progress {
-        kept: 0,
-        gathered: Gathered::new(),
-    };
-    let mut at = 0;
-    while last < line.len() - at {
-        let n = least(size, line.len() - at);
-        progress = read_part(progress, &line[at..at + n], false, &mut block, out);
-        at += n;
+    let mut progress = Progress::default();
+    let mut parts = line.chunks(size);
+    let mut last: &[u8] = &[];
+    if with_last {
+        last = parts.next_back().unwrap_or(&[]);
     }
-    progress = read_part(progress, &line[at..], true, &mut block, out);
-    progress.gathered
+    for part in parts {
+        progress = progress.read(part, false, &mut block, out)?;
+    }
+    progress = progress.read(last, true, &mut block, out)?;
+    progress.gathered.delivered(out)
 }
 
-// Reads the line in one block, which ends it, with an output buffer just as long where there is as much.
-pub(crate) fn read_whole(line: &[u8], out: &mut [u8]) -> Gathered {
+// Reads the line in one block, which ends it, with an output buffer just as long where there is as much; none where the block is
+// refused, or leaves something.
+pub(crate) fn read_whole<'a>(line: &[u8], out: &'a mut [u8]) -> Option<Delivered<'a>> {
     let n = line.len();
-    if out.len() < n {
-        return Gathered::spoilt();
-    }
-    let answer = line_block::read_block(line, true, &mut out[..n]);
-    let BlockAnswer::Delivered {
+    let BlockRead {
         bytes,
         frames,
         rest,
-    } = answer
-    else {
-        return Gathered::spoilt();
-    };
+    } = line_block::read_block(line, true, out.get_mut(..n)?).ok()?;
     if rest != n {
-        return Gathered::spoilt();
+        return None;
     }
-    Gathered { bytes, frames }
+    Gathered { bytes, frames }.delivered(out)
 }

@@ -8,14 +8,16 @@ mod refusals;
 
 use frame::delivery::next_end;
 use run_text::count::Tally;
-use run_text::heard::{Gathered, hear_bytes, same};
-use run_text::read::read_input;
-use run_text::write::{write, write_either, write_frame, write_numbered, write_two};
+use run_text::heard::{Delivered, hear_bytes};
+use run_text::read::read_whole;
+use run_text::say;
+use run_text::write::write_frame;
 use std::io::Stdout;
 
 // Writes the line of each of the frames, which stand end to end.
 fn say_frames(to: Stdout, frames: &[u8]) {
     let mut at = 0;
+    // The place moves by a frame's length, so that this is no loop over places.
     while at < frames.len() {
         let next = next_end(frames, at);
         write_frame(to, &frames[at..next]);
@@ -23,98 +25,76 @@ fn say_frames(to: Stdout, frames: &[u8]) {
     }
 }
 
-// Lists what the calls delivered, and writes how much it is.
-fn say_gathered(to: Stdout, gathered: Gathered, out: &[u8]) {
-    let n = gathered.bytes;
-    if out.len() < n {
-        write(to, b"a call was refused\n");
-        return;
-    }
-    say_frames(to, &out[..n]);
-    write_two(to, gathered.frames, b" frames, ", n, b" bytes\n");
-}
-
-// Reads the line in one block, and writes whether it delivers the same.
-fn compare_whole(to: Stdout, line: &[u8], expected: Gathered, frames: &[u8], out: &mut [u8]) {
-    let whole = blocks::read_whole(line, out);
-    write_either(
-        to,
-        same(expected, frames, whole, out),
-        b"one block: the same\n",
-        b"one block: differs\n",
-    );
-}
-
-// The bytes that come with the end of the line: none, or as many as a block brings.
-fn last_bytes(size: usize, with_last: bool) -> usize {
-    if with_last {
-        return size;
-    }
-    0
-}
-
-// Reads the line in blocks of 1 to 300 bytes, and writes how many sizes deliver the same; one that does not is named. The end
-// comes with the last bytes or in a call of its own.
-fn compare_sizes(
+// A line, and what the calls delivered of it; none where one was refused.
+#[derive(Clone, Copy)]
+struct Expected<'l, 'f> {
     to: Stdout,
-    words: &[u8],
-    line: &[u8],
-    with_last: bool,
-    expected: Gathered,
-    frames: &[u8],
-    out: &mut [u8],
-) {
-    let mut tally = Tally { same: 0, differ: 0 };
-    let mut size = 1;
-    while size <= 300 {
-        let read = blocks::read_blocks(line, size, last_bytes(size, with_last), out);
-        let good = same(expected, frames, read, out);
-        if !good {
-            write_numbered(to, b"blocks of this size differ: ", size);
+    line: &'l [u8],
+    delivered: Option<Delivered<'f>>,
+}
+
+impl Expected<'_, '_> {
+    // Lists what the calls delivered, and writes how much it is.
+    fn say(self) {
+        match self.delivered {
+            Some(Delivered { bytes, frames }) => {
+                say_frames(self.to, bytes);
+                say!(self.to; "{frames} frames, {} bytes", bytes.len());
+            }
+            None => say!(self.to; "a call was refused"),
         }
-        tally = tally.counted(good);
-        size += 1;
     }
-    write(to, words);
-    write_two(to, tally.same, b" the same, ", tally.differ, b" differ\n");
+
+    // Whether another way of reading the line delivers the same.
+    fn is_same(self, read: Option<Delivered<'_>>) -> bool {
+        read.is_some() && read == self.delivered
+    }
+
+    // Reads the line in one block, and writes whether it delivers the same.
+    fn compare_whole(self, out: &mut [u8]) {
+        let is_same = self.is_same(blocks::read_whole(self.line, out));
+        say!(self.to; "one block: {}", if is_same { "the same" } else { "differs" });
+    }
+
+    // Reads the line in blocks of 1 to 300 bytes, and writes how many sizes deliver the same; one that does not is named. The end
+    // comes with the last bytes or in a call of its own.
+    fn compare_sizes(self, words: &str, with_last: bool, out: &mut [u8]) {
+        let mut tally = Tally::default();
+        for size in 1..=300 {
+            let is_same = self.is_same(blocks::read_blocks(self.line, size, with_last, out));
+            if !is_same {
+                say!(self.to; "blocks of this size differ: {size}");
+            }
+            tally = tally.counted(is_same);
+        }
+        say!(self.to; "{words}: {} the same, {} differ", tally.same, tally.differ);
+    }
 }
 
 // Reads the line in every way.
 fn compare(to: Stdout, line: &[u8]) {
     let mut frames = [0u8; 65536];
     let mut out = [0u8; 65536];
-    let expected = hear_bytes(line, &mut frames);
-    say_gathered(to, expected, &frames);
-    compare_whole(to, line, expected, &frames, &mut out);
-    compare_sizes(
+    let delivered = hear_bytes(line, &mut frames);
+    let expected = Expected {
         to,
-        b"blocks of 1 to 300 bytes: ",
         line,
-        false,
-        expected,
-        &frames,
-        &mut out,
-    );
-    compare_sizes(
-        to,
-        b"ended with their last bytes: ",
-        line,
-        true,
-        expected,
-        &frames,
-        &mut out,
-    );
+        delivered,
+    };
+    expected.say();
+    expected.compare_whole(&mut out);
+    expected.compare_sizes("blocks of 1 to 300 bytes", false, &mut out);
+    expected.compare_sizes("ended with their last bytes", true, &mut out);
     refusals::refuse(to, line);
 }
 
 // Reads the whole line, of less than 32,768 bytes, and compares.
 fn main(rt: HostRuntime) {
     let to = rt.stdout();
-    let mut line = [0u8; 32768];
-    let n = read_input(rt.stdin(), &mut line);
-    if n == line.len() {
-        write(to, b"too long a line\n");
+    let mut buffer = [0u8; 32768];
+    let Some(line) = read_whole(rt.stdin(), &mut buffer) else {
+        say!(to; "too long a line");
         return;
-    }
-    compare(to, &line[..n]);
+    };
+    compare(to, line);
 }

@@ -1,160 +1,99 @@
 // Calls that must refuse the first 300 bytes of the line, and leave the memory that is lent to them as it was.
-use line_block::BlockAnswer;
-use listing::step::StepListed;
-use recording::StepAnswer;
+use frame::refusal::Refusal;
 use run_text::memory::{FILL, is_filled};
-use run_text::write::{write, write_either, write_number};
+use run_text::say;
 use std::io::Stdout;
 
-// Writes that a call was refused, and whether what was lent to it is as it was.
-fn say_refused(to: Stdout, number: u8, untouched: bool) {
-    write(to, b"refused with ");
-    write_number(to, number as usize, b", ");
-    write_either(to, untouched, b"nothing changed\n", b"something changed\n");
+// How many bytes of the line are given to each call.
+const BLOCK: usize = 300;
+
+// Writes whether a call was refused, and whether what was lent to it is as it was.
+fn say_refused<T: Copy>(to: Stdout, words: &str, answer: Result<T, Refusal>, is_untouched: bool) {
+    let changed = if is_untouched { "nothing" } else { "something" };
+    match answer {
+        Ok(_) => say!(to; "{words}: not refused"),
+        Err(refusal) => say!(to; "{words}: refused with {}, {changed} changed", refusal.number()),
+    }
 }
 
-// Reads the block with memory for its frames, and writes whether that is refused.
-fn refuse_block(to: Stdout, words: &[u8], block: &[u8], out: &mut [u8]) {
-    write(to, words);
-    let answer = line_block::read_block(block, true, out);
-    let BlockAnswer::Refused(number) = answer else {
-        write(to, b"not refused\n");
-        return;
-    };
-    say_refused(to, number, is_filled(out));
-}
-
-// A step of reading over so many bytes kept and read of a buffer that holds the block; writes whether it is refused.
-fn refuse_step(
+// A call over so many bytes kept and so many read of a buffer that holds the block.
+#[derive(Clone, Copy)]
+struct Refused {
     to: Stdout,
-    words: &[u8],
-    block: &[u8; 300],
+    block: [u8; BLOCK],
     kept: usize,
     read: usize,
-    out: &mut [u8],
-) {
-    write(to, words);
-    let mut buffer = [0u8; 300];
-    slice_bytes::copy(block, &mut buffer);
-    let answer = recording::read_step(&mut buffer, kept, read, true, out);
-    let StepAnswer::Refused(number) = answer else {
-        write(to, b"not refused\n");
-        return;
-    };
-    say_refused(to, number, buffer == *block && is_filled(out));
 }
 
-// A step of the listing, likewise.
-fn refuse_listing(
-    to: Stdout,
-    words: &[u8],
-    block: &[u8; 300],
-    kept: usize,
-    read: usize,
-    frames: &mut [u8],
-    text: &mut [u8],
-) {
-    write(to, words);
-    let mut buffer = [0u8; 300];
-    slice_bytes::copy(block, &mut buffer);
-    let listed = listing::step::list_step(&mut buffer, kept, read, frames, text);
-    let StepListed::Refused(number) = listed else {
-        write(to, b"not refused\n");
-        return;
-    };
-    let same = buffer == *block && is_filled(frames);
-    say_refused(to, number, same && is_filled(text));
+impl Refused {
+    // A step of reading; writes whether it is refused.
+    fn step(self, words: &str, out: &mut [u8]) {
+        let mut buffer = self.block;
+        let answer = recording::read_step(&mut buffer, self.kept, self.read, true, out);
+        let is_untouched = buffer == self.block && is_filled(out);
+        say_refused(self.to, words, answer, is_untouched);
+    }
+
+    // A step of the listing, likewise.
+    fn listing(self, words: &str, frames: &mut [u8], text: &mut [u8]) {
+        let mut buffer = self.block;
+        let listed = listing::step::list_step(&mut buffer, self.kept, self.read, frames, text);
+        let is_untouched = buffer == self.block && is_filled(frames) && is_filled(text);
+        say_refused(self.to, words, listed, is_untouched);
+    }
+}
+
+// A block with memory for its frames that is too short.
+fn refuse_block(to: Stdout, block: &[u8; BLOCK]) {
+    let mut out = [FILL; 299];
+    let answer = line_block::read_block(block, true, &mut out);
+    say_refused(to, "a block, memory", answer, is_filled(&out));
 }
 
 // Steps of reading with memory that is too short, each alone and both.
-fn refuse_steps(to: Stdout, block: &[u8; 300]) {
+fn refuse_steps(to: Stdout, block: [u8; BLOCK]) {
     let mut short = [FILL; 299];
     let mut out = [FILL; 400];
-    refuse_step(to, b"a step, memory: ", block, 100, 200, &mut short);
-    refuse_step(to, b"a step, buffer: ", block, 100, 201, &mut out);
-    refuse_step(
+    let over = |kept, read| Refused {
         to,
-        b"a step, buffer by what is kept: ",
         block,
-        301,
-        0,
-        &mut out,
-    );
-    refuse_step(to, b"a step, both: ", block, 100, 201, &mut short);
-    refuse_step(
-        to,
-        b"a step, the largest numbers: ",
-        block,
-        usize::MAX,
-        usize::MAX,
-        &mut out,
-    );
+        kept,
+        read,
+    };
+    over(100, 200).step("a step, memory", &mut short);
+    over(100, 201).step("a step, buffer", &mut out);
+    over(301, 0).step("a step, buffer by what is kept", &mut out);
+    over(100, 201).step("a step, both", &mut short);
+    over(usize::MAX, usize::MAX).step("a step, the largest numbers", &mut out);
 }
 
 // Steps of the listing with memory that is too short, each alone and all.
-fn refuse_listings(to: Stdout, block: &[u8; 300]) {
+fn refuse_listings(to: Stdout, block: [u8; BLOCK]) {
     let mut short = [FILL; 299];
     let mut frames = [FILL; 400];
     let mut short_text = [FILL; 599];
     let mut text = [FILL; 700];
-    refuse_listing(
+    let over = |kept, read| Refused {
         to,
-        b"a listing, text: ",
         block,
-        100,
-        200,
-        &mut frames,
-        &mut short_text,
-    );
-    refuse_listing(
-        to,
-        b"a listing, frames: ",
-        block,
-        100,
-        200,
-        &mut short,
-        &mut text,
-    );
-    refuse_listing(
-        to,
-        b"a listing, buffer: ",
-        block,
-        100,
-        201,
-        &mut frames,
-        &mut text,
-    );
-    refuse_listing(
-        to,
-        b"a listing, all: ",
-        block,
-        100,
-        201,
-        &mut short,
-        &mut short_text,
-    );
-    refuse_listing(
-        to,
-        b"a listing, the largest numbers: ",
-        block,
-        usize::MAX,
-        usize::MAX,
-        &mut frames,
-        &mut text,
-    );
+        kept,
+        read,
+    };
+    over(100, 200).listing("a listing, text", &mut frames, &mut short_text);
+    over(100, 200).listing("a listing, frames", &mut short, &mut text);
+    over(100, 201).listing("a listing, buffer", &mut frames, &mut text);
+    over(100, 201).listing("a listing, all", &mut short, &mut short_text);
+    over(usize::MAX, usize::MAX).listing("a listing, the largest numbers", &mut frames, &mut text);
 }
 
 // Gives the first 300 bytes of the line to every call that can refuse them.
 pub fn refuse(to: Stdout, line: &[u8]) {
-    if line.len() < 300 {
-        write(to, b"the line is too short\n");
+    let Some(block) = line.first_chunk::<BLOCK>() else {
+        say!(to; "the line is too short");
         return;
-    }
-    let mut block = [0u8; 300];
-    slice_bytes::copy(&line[..300], &mut block);
-    let mut short = [FILL; 299];
-    write(to, b"too short\n");
-    refuse_block(to, b"a block, memory: ", &block, &mut short);
-    refuse_steps(to, &block);
-    refuse_listings(to, &block);
+    };
+    say!(to; "too short");
+    refuse_block(to, block);
+    refuse_steps(to, *block);
+    refuse_listings(to, *block);
 }

@@ -12,67 +12,38 @@
 //     reading DIRECTION ROW COLUMN      a reading as it is sent
 #![tactic(auto)]
 
-mod call;
 mod state;
 mod step;
 
-use call::{Verb, call_of};
-use run_text::read::{is_comment, read_input};
-use run_text::write::{write, write_line};
-use slice_bytes::find;
+use run_text::read::{read_exactly, split_word};
+use run_text::script::run_script;
 use state::State;
-use std::io::Stdout;
 use step::steps;
 
-// Carries out a line. The trace stands at the front of its buffer.
-fn run_line(to: Stdout, state: State, line: &[u8], trace: &mut [u8]) -> State {
-    if is_comment(line) {
-        write_line(to, line);
-        return state;
-    }
-    let end = find(line, 0, line.len(), b' ');
-    let text = &line[end..];
-    let call = call_of(&line[0..end], text);
-    let verb = call.verb;
-    let numbers = call.numbers;
-    match verb {
-        Verb::Start => state.start(to, text),
-        Verb::Trace => state.emptied().more(to, text, trace),
-        Verb::More => state.more(to, text, trace),
-        Verb::Place => state.at(numbers.d),
-        Verb::Short => state.short(numbers.d),
-        Verb::Steps => steps(to, state, numbers.d, trace),
-        Verb::Break => state.broken(to, text),
-        Verb::State => state.show(to),
-        Verb::Reading => state.reading(to, numbers),
-        Verb::Other => {
-            write(to, b"not a call: ");
-            write_line(to, line);
-            state
-        }
-    }
+// Carries out the call of a line, if it is one. The trace stands at the front of its buffer.
+fn run_line(state: State, line: &[u8], trace: &mut [u8]) -> Option<State> {
+    let (word, text) = split_word(line);
+    let one = |text: &[u8]| read_exactly::<1>(text, u32::MAX).map(|[n]| n);
+    let next = match word {
+        b"start" => state.start(text),
+        b"trace" => state.emptied().more(text, trace),
+        b"more" => state.more(text, trace),
+        b"place" => state.at(one(text)?),
+        b"short" => state.short(one(text)?),
+        b"steps" => steps(state, one(text)?, trace),
+        b"break" => state.broken(text),
+        b"state" => state.show(),
+        b"reading" => state.reading(read_exactly(text, u32::MAX)?),
+        _ => return None,
+    };
+    Some(next)
 }
 
-// Carries out each line of the text. The end of the text ends the last line too.
-fn run_lines(to: Stdout, text: &[u8], trace: &mut [u8]) {
-    let mut state = State::new();
-    let mut at = 0;
-    while at < text.len() {
-        let end = find(text, at, text.len(), b'\n');
-        state = run_line(to, state, &text[at..end], trace);
-        at = end + 1;
-    }
-}
-
-// Carries out the script that the whole input is, of at most 100,000 bytes.
+// Carries out the script that the input is.
 fn main(rt: HostRuntime) {
     let to = rt.stdout();
-    let mut text = [0u8; 100001];
-    let n = read_input(rt.stdin(), &mut text);
-    if n == text.len() {
-        write(to, b"script too long\n");
-        return;
-    }
     let mut trace = [0u8; 65536];
-    run_lines(to, &text[..n], &mut trace);
+    run_script(rt.stdin(), to, State::new(to), |state, line| {
+        run_line(state, line, &mut trace)
+    });
 }

@@ -3,111 +3,51 @@
 use crate::state::State;
 use replay::StepAnswer;
 use replay_walker::walk_from;
-use run_replay_parts::memory::{MEMORY, at_most, write_text};
+use run_replay_parts::memory::{MEMORY, write_text};
 use run_text::memory::FILL;
-use run_text::write::{write, write_number, write_numbered, write_two};
+use run_text::say;
 use std::io::Stdout;
 
-// Writes the answer, unless a record is played and more steps are to come; and says whether they are.
-fn goes_on(to: Stdout, answer: StepAnswer, left: u32) -> bool {
+// Writes an answer.
+fn say_answer(to: Stdout, answer: StepAnswer) {
     match answer {
-        StepAnswer::Done => {
-            write(to, b"done\n");
-            false
-        }
-        StepAnswer::Refused(refusal) => {
-            write_numbered(to, b"refused ", refusal as usize);
-            false
-        }
-        StepAnswer::BadRecord { refusal, place } => {
-            write(to, b"bad ");
-            write_two(to, refusal as usize, b" ", place, b"\n");
-            false
-        }
-        StepAnswer::Played { text, lines, next } => {
-            if 0 < left {
-                return true;
-            }
-            write(to, b"played ");
-            write_two(to, text, b" ", lines, b" ");
-            write_number(to, next, b"\n");
-            false
-        }
+        StepAnswer::Done => say!(to; "done"),
+        StepAnswer::Refused(refusal) => say!(to; "refused {}", refusal.number()),
+        StepAnswer::BadRecord { refusal, place } => say!(to; "bad {} {place}", refusal.number()),
+        StepAnswer::Played { text, lines, next } => say!(to; "played {text} {lines} {next}"),
     }
 }
 
-// The place after an answer: that of the next record where one is played.
-fn place_after(answer: StepAnswer, place: usize) -> usize {
+// Where an answer says that a record is played: how many bytes of text there are, and the place of the next record.
+fn played_of(answer: StepAnswer) -> Option<(usize, usize)> {
     match answer {
-        StepAnswer::Done => place,
-        StepAnswer::Refused(_) => place,
-        StepAnswer::BadRecord {
-            refusal: _,
-            place: _,
-        } => place,
-        StepAnswer::Played {
-            text: _,
-            lines: _,
-            next,
-        } => next,
+        StepAnswer::Played { text, next, .. } => Some((text, next)),
+        _ => None,
     }
 }
 
-// How many bytes of text an answer says.
-fn text_of(answer: StepAnswer) -> usize {
-    match answer {
-        StepAnswer::Done => 0,
-        StepAnswer::Refused(_) => 0,
-        StepAnswer::BadRecord {
-            refusal: _,
-            place: _,
-        } => 0,
-        StepAnswer::Played {
-            text,
-            lines: _,
-            next: _,
-        } => text,
-    }
-}
-
-// What a step leaves: the state after it, and whether more steps are to come.
-#[derive(Clone, Copy)]
-struct Made {
-    state: State,
-    more: bool,
-}
-
-// One step in an output buffer that is filled before it, with so many left to make.
-fn step(to: Stdout, state: State, left: u32, trace: &[u8]) -> Made {
-    let mut out = [FILL; MEMORY];
-    let size = at_most(MEMORY, state.room);
-    let replay = state.replay;
-    let place = state.place;
-    let stepped = walk_from(trace, place, replay, &mut out[0..size]);
-    let answer = stepped.answer;
-    write_text(to, &out, text_of(answer));
-    let after = stepped.state;
-    let mut next = state.with_replay(after);
-    next.place = place_after(answer, place);
-    Made {
-        state: next,
-        more: goes_on(to, answer, left),
-    }
-}
-
-// So many steps over the trace at the front of its buffer, or fewer where one plays nothing.
-pub(crate) fn steps(to: Stdout, state: State, count: u32, trace: &[u8]) -> State {
-    let length = state.length;
-    if trace.len() < length {
+// So many steps over the trace at the front of its buffer, or fewer where one plays nothing. Each has an output buffer that is filled before it.
+pub(crate) fn steps(state: State, count: u32, trace: &[u8]) -> State {
+    let Some(trace) = trace.get(..state.length) else {
         return state;
-    }
+    };
+    let to = state.to;
+    let room = state.room.min(MEMORY);
     let mut present = state;
-    let mut left = count;
-    while 0 < left {
-        left -= 1;
-        let made = step(to, present, left, &trace[0..length]);
-        present = made.state;
-        if !made.more {
+    for left in (0..count).rev() {
+        let mut out = [FILL; MEMORY];
+        let stepped = walk_from(trace, present.place, present.replay, &mut out[..room]);
+        let answer = stepped.answer;
+        let played = played_of(answer);
+        let (text, place) = played.unwrap_or((0, present.place));
+        write_text(to, &out, text);
+        present = State {
+            replay: stepped.state,
+            place,
+            ..present
+        };
+        if left == 0 || played.is_none() {
+            say_answer(to, answer);
             return present;
         }
     }

@@ -20,85 +20,60 @@
 #![tactic(auto)]
 
 mod block;
-mod call;
 mod state;
 
-use block::play;
-use call::{Shown, Verb, shown_of, verb_of};
+use block::{block, play};
 use run_replay_parts::{shown, text};
-use run_text::read::{Numbers, is_comment, read_input, read_numbers};
-use run_text::write::{write, write_line};
-use slice_bytes::find;
+use run_text::read::{read_numbers, split_word};
+use run_text::script::run_script;
 use state::{BUFFER, State};
-use std::io::Stdout;
 
-// Carries out a call that changes nothing, or says that there is none. Where a call has no numbers, or others than it takes, they are zeros.
-fn show(to: Stdout, state: State, word: &[u8], behind: &[u8], numbers: Numbers) {
+// Carries out a call that changes nothing, if the word is one.
+fn show(state: State, word: &[u8], behind: &[u8], numbers: [u32; 3]) -> Option<()> {
+    let to = state.to;
     let session = state.session;
     let room = state.room;
-    let call = shown_of(word);
-    match call {
-        Shown::State => shown::show(to, session.state),
-        Shown::Reading => shown::show_reading(to, session.state, numbers),
-        Shown::Refusal => text::refusal(to, numbers.d, session.place, room),
-        Shown::Counts => text::counts(to, session.records, session.frames, session.replies, room),
-        Shown::Usage => text::usage(to, numbers.d, room),
-        Shown::Address => text::address(to, behind),
-        Shown::Other => {
-            write(to, b"not a call: ");
-            write(to, word);
-            write_line(to, behind);
-        }
+    let [_, _, number] = numbers;
+    match word {
+        b"state" => shown::show(to, session.state),
+        b"reading" => shown::write_reading(to, session.state, numbers),
+        b"refusal" => text::refusal(to, number, session.place, room),
+        b"counts" => text::counts(to, session.records, session.frames, session.replies, room),
+        b"usage" => text::usage(to, number, room),
+        b"address" => text::address(to, behind),
+        _ => return None,
     }
+    Some(())
 }
 
-// Carries out a line.
-fn run_line(to: Stdout, state: State, line: &[u8], buffer: &mut [u8]) -> State {
-    if is_comment(line) {
-        write_line(to, line);
-        return state;
-    }
-    let end = find(line, 0, line.len(), b' ');
-    let behind = &line[end..];
-    let numbers = read_numbers(behind, u32::MAX);
-    let word = &line[0..end];
-    let verb = verb_of(word);
-    match verb {
-        Verb::Begin => state.begin(to, behind),
-        Verb::Called => state.called(to, behind),
-        Verb::Number => state.number(numbers),
-        Verb::Sizes => state.sized(numbers),
-        Verb::Block => block::block(to, state, behind, buffer),
-        Verb::Play => play(to, state, numbers.d as usize, buffer),
-        Verb::Frames => state.frames(to, behind),
-        Verb::Break => state.broken(to, behind),
-        Verb::Other => {
-            show(to, state, word, behind, numbers);
+// Carries out the call of a line, if it is one. Where a call has no numbers, or others than it takes, they are zeros.
+fn run_line(state: State, line: &[u8], buffer: &mut [u8; BUFFER]) -> Option<State> {
+    let (word, behind) = split_word(line);
+    let read = read_numbers(behind, u32::MAX).unwrap_or_default();
+    let [_, first, second, number] = read.last;
+    let numbers = [first, second, number];
+    let next = match word {
+        b"begin" => state.begin(behind),
+        b"called" => state.called(behind),
+        b"number" => state.number(numbers),
+        b"sizes" => state.sized(numbers),
+        b"block" => block(state, behind, buffer),
+        b"play" => play(state, number as usize, buffer),
+        b"frames" => state.frames(behind),
+        b"break" => state.broken(behind),
+        _ => {
+            show(state, word, behind, numbers)?;
             state
         }
-    }
+    };
+    Some(next)
 }
 
-// Carries out each line of the text. The end of the text ends the last line too.
-fn run_lines(to: Stdout, text: &[u8], buffer: &mut [u8]) {
-    let mut state = State::new();
-    let mut at = 0;
-    while at < text.len() {
-        let end = find(text, at, text.len(), b'\n');
-        state = run_line(to, state, &text[at..end], buffer);
-        at = end + 1;
-    }
-}
-
-// Carries out the script that the whole input is, of at most 100,000 bytes.
+// Carries out the script that the input is.
 fn main(rt: HostRuntime) {
     let to = rt.stdout();
-    let mut text = [0u8; 100001];
-    let n = read_input(rt.stdin(), &mut text);
-    if n == text.len() {
-        write(to, b"script too long\n");
-        return;
-    }
     let mut buffer = [0u8; BUFFER];
-    run_lines(to, &text[..n], &mut buffer);
+    run_script(rt.stdin(), to, State::new(to), |state, line| {
+        run_line(state, line, &mut buffer)
+    });
 }

@@ -1,54 +1,42 @@
 // Frames put to a meter, and what is written of them.
-use crate::memory::{MEMORY, at_most, write_text};
-use energy::Energies;
-use meter::Meter;
-use replay_frames::{PutAnswer, put_frames};
+use crate::memory::{MEMORY, write_text};
+use replay::ReplayState;
+use replay_frames::{LinesPut, put_frames};
 use run_text::memory::FILL;
-use run_text::read::{BytesRead, read_bytes};
-use run_text::write::{write, write_numbered, write_two};
+use run_text::read::read_bytes;
+use run_text::say;
 use std::io::Stdout;
 
 // How many bytes of frames there can be.
 const MOST: usize = 256;
 
-// Puts frames, so many bytes at the front of a buffer, to a meter with so many bytes of output buffer, writes the answer and the text, and returns
-// the meter after it.
-fn put_front(
-    to: Stdout,
-    meter: Meter,
-    energies: Energies,
-    frames: &[u8; MOST],
-    length: usize,
-    room: usize,
-) -> Meter {
-    let all: &[u8] = frames;
-    if all.len() < length {
-        return meter;
-    }
+// Puts the frames of a text to the meter of a replay with so many bytes of output buffer, writes the answer and the text, and returns the replay
+// with the meter after it.
+pub fn put_text(to: Stdout, replay: ReplayState, text: &[u8], room: usize) -> ReplayState {
+    let mut buffer = [0u8; MOST];
+    let Some(frames) = read_bytes(text, &mut buffer) else {
+        say!(to; "no bytes");
+        return replay;
+    };
     let mut out = [FILL; MEMORY];
-    let size = at_most(MEMORY, room);
-    let put = put_frames(meter, energies, &all[0..length], &mut out[0..size]);
-    let answer = put.answer;
-    match answer {
-        PutAnswer::Refused(refusal) => {
-            write_numbered(to, b"refused ", refusal as usize);
+    let put = put_frames(
+        replay.meter,
+        replay.energies,
+        frames,
+        &mut out[..room.min(MEMORY)],
+    );
+    match put.answer {
+        Err(refusal) => {
+            say!(to; "refused {}", refusal.number());
             write_text(to, &out, 0);
         }
-        PutAnswer::Put { text, lines } => {
-            write(to, b"put ");
-            write_two(to, text, b" ", lines, b"\n");
+        Ok(LinesPut { text, lines }) => {
+            say!(to; "put {text} {lines}");
             write_text(to, &out, text);
         }
     }
-    put.meter
-}
-
-// The same with the frames of a text.
-pub fn put(to: Stdout, meter: Meter, energies: Energies, text: &[u8], room: usize) -> Meter {
-    let mut frames = [0u8; MOST];
-    let BytesRead::Count(length) = read_bytes(text, &mut frames) else {
-        write(to, b"no bytes\n");
-        return meter;
-    };
-    put_front(to, meter, energies, &frames, length, room)
+    ReplayState {
+        meter: put.meter,
+        ..replay
+    }
 }

@@ -1,44 +1,30 @@
 // What is written of a replay: what its receiver and its meter hold.
-use energy::{Energies, Rows, reading};
+use energy::reading;
 use replay::ReplayState;
 use run_script_answers::told;
-use run_text::read::Numbers;
-use run_text::write::write_bytes;
+use run_text::say;
+use run_text::write::Hex;
 use std::io::Stdout;
 
-// Writes the bytes that a receiver keeps, unless it counts more than it has.
-fn write_kept(to: Stdout, kept: &[u8], count: usize) {
-    if kept.len() < count {
-        return;
-    }
-    write_bytes(to, b"kept", &kept[0..count]);
-}
-
-// Writes what the meter holds besides its readings, and the bytes that the receiver keeps.
+// Writes what the meter holds besides its readings, and the bytes that the receiver keeps, unless it counts more than it has.
 pub fn show(to: Stdout, replay: ReplayState) {
     told::show(to, replay.meter);
     let receiver = replay.receiver;
-    let kept = receiver.kept;
-    write_kept(to, &kept, receiver.count);
-}
-
-// The rows of a direction, 0 for forward.
-fn rows_of(energies: Energies, direction: u32) -> Rows {
-    if direction == 0 {
-        return energies.forward_rows();
+    if let Some(kept) = receiver.kept.get(..receiver.count) {
+        say!(to; "kept{}", Hex(kept));
     }
-    energies.reverse_rows()
 }
 
-// Writes a reading as it is sent, by direction, row and column; nothing where there is no such row or column.
-pub fn show_reading(to: Stdout, replay: ReplayState, numbers: Numbers) {
-    let row = numbers.c;
-    let column = numbers.d;
+// Writes a reading as it is sent, by direction, 0 for forward, row and column; nothing where there is no such row or column.
+pub fn write_reading(to: Stdout, replay: ReplayState, [direction, row, column]: [u32; 3]) {
     if 13 <= row || 5 <= column {
         return;
     }
-    let rows = rows_of(replay.energies, numbers.b);
-    let shown = rows[row as usize];
-    let bytes = reading::bytes_of(shown[column as usize]);
-    write_bytes(to, b"reading", &bytes);
+    let energies = replay.energies;
+    let rows = match direction {
+        0 => energies.forward_rows(),
+        _ => energies.reverse_rows(),
+    };
+    let bytes = reading::bytes_of(rows[row as usize][column as usize]);
+    say!(to; "reading{}", Hex(&bytes));
 }

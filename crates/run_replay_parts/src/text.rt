@@ -1,23 +1,24 @@
 // The texts of the replay program, written into an output buffer of which so many bytes are lent, and the addresses that it reads.
-use crate::memory::{MEMORY, at_most, write_text};
+use crate::memory::{MEMORY, write_text};
 use replay_address::read_address;
-use replay_text::{Message, Reason, Written};
+use replay_text::{Message, Reason};
 use run_text::memory::FILL;
-use run_text::write::{write, write_bytes, write_either, write_numbered};
+use run_text::read::skip_blank;
+use run_text::say;
+use run_text::write::Hex;
 use std::io::Stdout;
 
 // Writes a message into an output buffer of which so many bytes are lent: the answer, and the text.
 pub fn show(to: Stdout, message: Message, room: usize) {
     let mut out = [FILL; MEMORY];
-    let size = at_most(MEMORY, room);
-    let written = replay_text::write_message(message, &mut out[0..size]);
+    let written = replay_text::write_message(message, &mut out[..room.min(MEMORY)]);
     match written {
-        Written::Length(n) => {
-            write_numbered(to, b"written ", n);
+        Some(n) => {
+            say!(to; "written {n}");
             write_text(to, &out, n);
         }
-        Written::TooLittleMemory => {
-            write(to, b"too little memory\n");
+        None => {
+            say!(to; "too little memory");
             write_text(to, &out, 0);
         }
     }
@@ -56,11 +57,10 @@ pub fn usage(to: Stdout, number: u32, room: usize) {
     show(to, Message::Usage(reason_of(number)), room);
 }
 
-// Writes the address that is read from a text behind a blank.
+// Writes the address that is read from a text behind a blank; six zeros where it is none.
 pub fn address(to: Stdout, text: &[u8]) {
-    let start = at_most(text.len(), 1);
-    let read = read_address(&text[start..]);
-    let address = read.address;
-    write_either(to, read.found, b"address", b"no address");
-    write_bytes(to, b"", &address);
+    match read_address(skip_blank(text)) {
+        Some(address) => say!(to; "address{}", Hex(&address)),
+        None => say!(to; "no address{}", Hex(&[0; 6])),
+    }
 }

@@ -23,75 +23,74 @@
 
 mod state;
 
-use run_script_calls::{Call, Verb, call_of};
-use run_text::read::{is_comment, read_input};
-use run_text::write::{write, write_line};
+use run_script_calls::{bytes_of, place_and_byte, six_of};
+use run_text::read::{read_exactly, split_word};
+use run_text::script::run_script;
 use state::State;
-use std::io::Stdout;
 
-// Carries out a call of a line, with its bytes.
-fn run_call(to: Stdout, state: State, call: Call, bytes: &[u8], line: &[u8]) -> State {
-    let verb = call.verb;
-    let numbers = call.numbers;
-    match verb {
-        Verb::Meter => state.meter(to, bytes),
-        Verb::Address => state.address(bytes),
-        Verb::Frame => state.frame(to, bytes),
-        Verb::Judge => state.judge(to, bytes),
-        Verb::Tell => state.tell(to, bytes),
-        Verb::Request => state.request(bytes),
-        Verb::Memory => state.memory(numbers.d),
-        Verb::Lent => state.lent(numbers),
-        Verb::Key => state.key(to, numbers.d == 1),
-        Verb::Pulse => state.pulse(to, numbers),
-        Verb::Reading => state.reading(numbers),
-        Verb::Register => state.register(numbers.d, bytes),
-        Verb::Settle => state.settle(to),
-        Verb::Show => state.show(to),
-        Verb::Build => state.build(to),
-        Verb::Exchange => state.exchange(to),
-        Verb::Other => {
-            write(to, b"not a call: ");
-            write_line(to, line);
-            state
+// Carries out a call with bytes behind its word, if it is one.
+fn run_bytes(state: State, word: &[u8], bytes: &[u8]) -> Option<State> {
+    let next = match word {
+        b"meter" => state.meter(six_of(bytes)?),
+        b"address" => state.address(six_of(bytes)?),
+        b"frame" => state.frame(bytes),
+        b"judge" => state.judge(bytes),
+        b"tell" => state.tell(bytes),
+        b"request" => return state.request(bytes),
+        _ => return None,
+    };
+    Some(next)
+}
+
+// Carries out a call with numbers behind its word, if it is one.
+fn run_numbers(state: State, word: &[u8], text: &[u8]) -> Option<State> {
+    let next = match word {
+        b"memory" => {
+            let [room] = read_exactly::<1>(text, 256)?;
+            state.memory(room)
         }
+        b"key" => {
+            let [on] = read_exactly::<1>(text, 1)?;
+            state.key(on == 1)
+        }
+        b"register" => {
+            let (place, byte) = place_and_byte(text)?;
+            state.register(place, byte)
+        }
+        b"lent" => state.lent(read_exactly(text, 256)?),
+        b"pulse" => state.pulse(read_exactly(text, u32::MAX)?),
+        b"reading" => state.reading(read_exactly(text, u32::MAX)?),
+        _ => return None,
+    };
+    Some(next)
+}
+
+// Carries out a call that is a word alone, if it is one.
+fn run_word(state: State, line: &[u8]) -> Option<State> {
+    match line {
+        b"settle" => Some(state.settle()),
+        b"show" => Some(state.show()),
+        b"build" => Some(state.build()),
+        b"exchange" => Some(state.exchange()),
+        _ => None,
     }
 }
 
-// Carries out a line.
-fn run_line(to: Stdout, state: State, line: &[u8]) -> State {
-    if is_comment(line) {
-        write_line(to, line);
-        return state;
+// Carries out the call of a line, if it is one. A call has at most 256 bytes.
+fn run_line(state: State, line: &[u8]) -> Option<State> {
+    let (word, text) = split_word(line);
+    if let Some(next) = run_word(state, line) {
+        return Some(next);
+    }
+    if let Some(next) = run_numbers(state, word, text) {
+        return Some(next);
     }
     let mut buffer = [0u8; 256];
-    let call = call_of(line, &mut buffer);
-    let length = call.length;
-    if 256 < length {
-        return state;
-    }
-    run_call(to, state, call, &buffer[0..length], line)
+    run_bytes(state, word, bytes_of(text, &mut buffer)?)
 }
 
-// Carries out each line of the text. The end of the text ends the last line too.
-fn run_lines(to: Stdout, text: &[u8]) {
-    let mut state = State::start();
-    let mut at = 0;
-    while at < text.len() {
-        let end = slice_bytes::find(text, at, text.len(), b'\n');
-        state = run_line(to, state, &text[at..end]);
-        at = end + 1;
-    }
-}
-
-// Carries out the script that the whole input is, of at most 100,000 bytes.
+// Carries out the script that the input is.
 fn main(rt: HostRuntime) {
     let to = rt.stdout();
-    let mut text = [0u8; 100001];
-    let n = read_input(rt.stdin(), &mut text);
-    if n == text.len() {
-        write(to, b"script too long\n");
-        return;
-    }
-    run_lines(to, &text[..n]);
+    run_script(rt.stdin(), to, State::start(to), run_line);
 }

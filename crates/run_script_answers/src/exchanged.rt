@@ -1,12 +1,14 @@
 // Both ends.
+use crate::MEMORY;
 use crate::asked::write_judgement;
-use crate::written::{lent, write_changed, write_front};
 use energy::Energies;
 use exchange::{ExchangeAnswer, Exchanged};
+use frame::refusal::Refusal;
 use meter::Meter;
 use reader::Request;
-use run_text::memory::FILL;
-use run_text::write::write_numbered;
+use run_text::memory::{FILL, write_changed, write_front};
+use run_text::say;
+use run_text::write::write_frame;
 use std::io::Stdout;
 
 // The sizes of the output buffers of an exchange: for the request, for what the receiver delivers, for the reply and the value.
@@ -18,49 +20,66 @@ pub struct Sizes {
     pub value: usize,
 }
 
-// Writes the request that was delivered as a line of the listing. Of the buffer for the request nothing is changed behind it and
-// its wake-up bytes.
-fn write_request(to: Stdout, sent: &[u8; 256], heard: &[u8; 256], delivered: usize) {
-    let all: &[u8] = sent;
-    if 252 < delivered {
-        return;
+// The output buffers of an exchange.
+#[derive(Clone, Copy)]
+struct Buffers {
+    sent: [u8; MEMORY],
+    heard: [u8; MEMORY],
+    reply: [u8; MEMORY],
+    value: [u8; MEMORY],
+}
+
+impl Buffers {
+    // Before an exchange.
+    fn filled() -> Buffers {
+        Buffers {
+            sent: [FILL; MEMORY],
+            heard: [FILL; MEMORY],
+            reply: [FILL; MEMORY],
+            value: [FILL; MEMORY],
+        }
     }
-    let end = 4 + delivered;
-    write_changed(to, &all[end..]);
-    write_front(to, b"", heard, delivered);
-}
 
-// Writes why there is no reply, which leaves the buffers for it and for its value as they were.
-fn write_none(to: Stdout, word: &[u8], refusal: u8, reply: &[u8; 256], value: &[u8; 256]) {
-    write_numbered(to, word, refusal as usize);
-    write_changed(to, reply);
-    write_changed(to, value);
-}
+    // Writes the request that was delivered as a line of the listing. Of the buffer for the request nothing is changed behind it and
+    // its wake-up bytes.
+    fn write_request(&self, to: Stdout, delivered: usize) {
+        let Some(rest) = self.sent[4..].get(delivered..) else {
+            return;
+        };
+        write_changed(to, rest);
+        write_front(to, &self.heard, delivered, |frame| write_frame(to, frame));
+    }
 
-// Writes the answer to an exchange: the request and the reply as lines of the listing, and what the reader made of it.
-fn write_exchanged(
-    to: Stdout,
-    done: Exchanged,
-    sent: &[u8; 256],
-    heard: &[u8; 256],
-    reply: &[u8; 256],
-    value: &[u8; 256],
-) {
-    let answer = done.answer;
-    match answer {
-        ExchangeAnswer::Refused(refusal) => {
-            write_none(to, b"refused ", refusal, reply, value);
-            write_changed(to, sent);
-            write_changed(to, heard);
-        }
-        ExchangeAnswer::Silent(refusal) => {
-            write_request(to, sent, heard, done.delivered);
-            write_none(to, b"silent ", refusal, reply, value);
-        }
-        ExchangeAnswer::Judged(judgement) => {
-            write_request(to, sent, heard, done.delivered);
-            write_front(to, b"", reply, done.replied);
-            write_judgement(to, judgement, value);
+    // Writes why there is no reply, which leaves the buffers for it and for its value as they were.
+    fn write_none(&self, to: Stdout, word: &str, refusal: Refusal) {
+        say!(to; "{word} {}", refusal.number());
+        write_changed(to, &self.reply);
+        write_changed(to, &self.value);
+    }
+
+    // Writes the answer to an exchange: the request and the reply as lines of the listing, and what the reader made of it.
+    fn write(&self, to: Stdout, done: Exchanged) {
+        let answer = done.answer;
+        match answer {
+            ExchangeAnswer::Refused(refusal) => {
+                self.write_none(to, "refused", refusal);
+                write_changed(to, &self.sent);
+                write_changed(to, &self.heard);
+            }
+            ExchangeAnswer::Silent(refusal) => {
+                self.write_request(to, done.delivered);
+                self.write_none(to, "silent", refusal);
+            }
+            ExchangeAnswer::Judged(judgement) => {
+                self.write_request(to, done.delivered);
+                write_front(
+                    to,
+                    &self.reply,
+                    done.replied,
+                    |frame| write_frame(to, frame),
+                );
+                write_judgement(to, judgement, &self.value);
+            }
         }
     }
 }
@@ -73,26 +92,16 @@ pub fn exchange(
     energies: Energies,
     sizes: Sizes,
 ) -> Meter {
-    let a = lent(sizes.sent);
-    let b = lent(sizes.heard);
-    let c = lent(sizes.reply);
-    let d = lent(sizes.value);
-    let mut sent = [FILL; 256];
-    let mut heard = [FILL; 256];
-    let mut reply = [FILL; 256];
-    let mut value = [FILL; 256];
-    let forward = energies.forward_rows();
-    let reverse = energies.reverse_rows();
+    let mut buffers = Buffers::filled();
     let done = exchange::exchange(
         request,
         meter,
-        forward,
-        reverse,
-        &mut sent[0..a],
-        &mut heard[0..b],
-        &mut reply[0..c],
-        &mut value[0..d],
+        energies,
+        &mut buffers.sent[..sizes.sent.min(MEMORY)],
+        &mut buffers.heard[..sizes.heard.min(MEMORY)],
+        &mut buffers.reply[..sizes.reply.min(MEMORY)],
+        &mut buffers.value[..sizes.value.min(MEMORY)],
     );
-    write_exchanged(to, done, &sent, &heard, &reply, &value);
+    buffers.write(to, done);
     done.meter
 }

@@ -1,5 +1,5 @@
 // Bytes in hexadecimal and numbers in decimal, read from text, and text read from standard input.
-ghost use Rattle.std.specs.Prelude.{◌<◌, ◌≤◌, ◌/◌, length};
+ghost use Rattle.std.specs.Prelude.{◌≤◌, length};
 
 use std::io::{Read, Stdin};
 
@@ -8,6 +8,7 @@ pub fn read_input(mut from: Stdin, text: &mut [u8]) -> usize
     ensures { result ≤ length text.new }
 {
     let mut done = 0;
+    // The place moves by as many bytes as a read brings, so that this is no loop over places.
     while done < text.len() {
         let Ok(n) = from.read(&mut text[done..]) else {
             return done;
@@ -20,146 +21,117 @@ pub fn read_input(mut from: Stdin, text: &mut [u8]) -> usize
     done
 }
 
+// The whole input, which stands at the front of the buffer, or none where it fills the buffer.
+pub fn read_whole(from: Stdin, buffer: &mut [u8]) -> Option<&[u8]> {
+    let n = read_input(from, buffer);
+    if n == buffer.len() {
+        return None;
+    }
+    Some(&buffer[..n])
+}
+
+// Whether a line of text is empty or a comment, which begins with #.
+pub fn is_comment(line: &[u8]) -> bool {
+    matches!(line, [] | [b'#', ..])
+}
+
 // What three characters write, of which the first is a blank: a byte in hexadecimal, or -- for a silence.
 #[derive(Clone, Copy)]
 pub(crate) enum Symbol {
     Byte(u8),
     Silence,
-    Neither,
 }
 
-// Whether a line of text is empty or a comment, which begins with #.
-pub fn is_comment(line: &[u8]) -> bool {
-    if line.len() == 0 {
-        return true;
+// The value of a hexadecimal digit, 0 to 9 or a capital A to F.
+fn digit_of(c: u8) -> Option<u8> {
+    match c {
+        b'0'..=b'9' => Some(c - b'0'),
+        b'A'..=b'F' => Some(c - b'A' + 10),
+        _ => None,
     }
-    line[0] == b'#'
 }
 
-// How many bytes a text has, or that it has something else.
-#[derive(Clone, Copy)]
-pub enum BytesRead {
-    Count(usize),
-    Wrong,
+// The byte that two hexadecimal digits write.
+pub fn byte_of(high: u8, low: u8) -> Option<u8> {
+    Some(digit_of(high)? << 4 | digit_of(low)?)
 }
 
-// How many numbers a text has, and the last four of them: the last is `d`. No text has the largest number of them.
-#[derive(Clone, Copy)]
+// The symbol that three characters write.
+pub(crate) fn symbol_of(text: &[u8]) -> Option<Symbol> {
+    match text {
+        b" --" => Some(Symbol::Silence),
+        [b' ', high, low] => Some(Symbol::Byte(byte_of(*high, *low)?)),
+        _ => None,
+    }
+}
+
+// Reads the bytes of the text to the front of the buffer, if they are bytes and it has room for them. One or two characters behind
+// the last byte do not count.
+pub fn read_bytes<'a>(text: &[u8], buffer: &'a mut [u8]) -> Option<&'a [u8]> {
+    let bytes = buffer.get_mut(..text.len() / 3)?;
+    for (byte, symbol) in bytes.iter_mut().zip(text.chunks_exact(3)) {
+        let Symbol::Byte(b) = symbol_of(symbol)? else {
+            return None;
+        };
+        *byte = b;
+    }
+    Some(bytes)
+}
+
+// The number that decimal digits write, if it fits.
+pub fn number_of(digits: &[u8]) -> Option<u32> {
+    if digits.is_empty() {
+        return None;
+    }
+    let mut value = 0u32;
+    for c in digits {
+        let digit = digit_of(*c).filter(|d| *d < 10)?;
+        value = value.checked_mul(10)?.checked_add(u32::from(digit))?;
+    }
+    Some(value)
+}
+
+// How many numbers a text has, and the last four of them, behind zeros where it has fewer.
+#[derive(Clone, Copy, Default)]
 pub struct Numbers {
     pub count: usize,
-    pub a: u32,
-    pub b: u32,
-    pub c: u32,
-    pub d: u32,
+    pub last: [u32; 4],
 }
 
-// The value of a hexadecimal digit, 0 to 9 or a capital A to F, or 16 where it is none.
-fn digit_of(c: u8) -> u8 {
-    match c {
-        b'0'..=b'9' => c - b'0',
-        b'A'..=b'F' => c - b'A' + 10,
-        _ => 16,
+// Reads the numbers of a text, each in decimal digits after a blank, if they are numbers up to `most`. The text is empty or
+// begins with a blank.
+pub fn read_numbers(text: &[u8], most: u32) -> Option<Numbers> {
+    let mut numbers = Numbers::default();
+    if text.is_empty() {
+        return Some(numbers);
     }
-}
-
-// The symbol that two characters write.
-fn symbol_of(first: u8, second: u8) -> Symbol {
-    if first == b'-' {
-        if second == b'-' {
-            return Symbol::Silence;
-        }
-    }
-    let high = digit_of(first);
-    let low = digit_of(second);
-    if 15 < high | low {
-        return Symbol::Neither;
-    }
-    Symbol::Byte(high << 4 | low)
-}
-
-// Symbol `i` of the text.
-pub(crate) fn symbol_at(text: &[u8], i: usize) -> Symbol
-    requires { i < length text.now / 3 }
-{
-    let at = i * 3;
-    if text[at] != b' ' {
-        return Symbol::Neither;
-    }
-    symbol_of(text[at + 1], text[at + 2])
-}
-
-// Reads the bytes of the text to the front of the buffer; more than it has room for are wrong. One or two characters behind
-// the last byte do not count.
-pub fn read_bytes(text: &[u8], buffer: &mut [u8]) -> BytesRead {
-    let n = text.len() / 3;
-    if buffer.len() < n {
-        return BytesRead::Wrong;
-    }
-    let mut i = 0;
-    while i < n {
-        let Symbol::Byte(b) = symbol_at(text, i) else {
-            return BytesRead::Wrong;
-        };
-        buffer[i] = b;
-        i += 1;
-    }
-    BytesRead::Count(n)
-}
-
-// The number that decimal digits write, or the largest of 64 bits where it does not fit 32 or they are none.
-fn number_of(digits: &[u8]) -> u64 {
-    if digits.len() == 0 {
-        return u64::MAX;
-    }
-    let mut value: u64 = 0;
-    let mut i = 0;
-    while i < digits.len() {
-        let digit = digit_of(digits[i]);
-        if 9 < digit {
-            return u64::MAX;
-        }
-        value = value * 10 + digit as u64;
-        if 0xFFFFFFFF < value {
-            return u64::MAX;
-        }
-        i += 1;
-    }
-    value
-}
-
-// Reads the numbers of a text, each in decimal digits after a blank; with one above `most`, or with something else, it has none.
-// The text is empty or begins with a blank.
-pub fn read_numbers(text: &[u8], most: u32) -> Numbers {
-    let none = Numbers {
-        count: usize::MAX,
-        a: 0,
-        b: 0,
-        c: 0,
-        d: 0,
-    };
-    let mut numbers = Numbers {
-        count: 0,
-        a: 0,
-        b: 0,
-        c: 0,
-        d: 0,
-    };
-    let mut at = 0;
-    while at < text.len() {
-        let end = slice_bytes::find(text, at + 1, text.len(), b' ');
-        let n = number_of(&text[at + 1..end]);
-        if (most as u64) < n {
-            return none;
-        }
-        let before = numbers;
+    for digits in skip_blank(text).split(|b| *b == b' ') {
+        let n = number_of(digits).filter(|n| *n <= most)?;
+        let [_, b, c, d] = numbers.last;
         numbers = Numbers {
-            count: before.count + 1,
-            a: before.b,
-            b: before.c,
-            c: before.d,
-            d: n as u32,
+            count: numbers.count.saturating_add(1),
+            last: [b, c, d, n],
         };
-        at = end;
     }
-    numbers
+    Some(numbers)
+}
+
+// Reads N numbers, at most four, if the text has as many.
+pub fn read_exactly<const N: usize>(text: &[u8], most: u32) -> Option<[u32; N]> {
+    let numbers = read_numbers(text, most)?;
+    if numbers.count != N {
+        return None;
+    }
+    numbers.last.last_chunk::<N>().copied()
+}
+
+// The word of a line, and what stands behind it, which is nothing or begins with a blank.
+pub fn split_word(line: &[u8]) -> (&[u8], &[u8]) {
+    let end = line.iter().position(|b| *b == b' ');
+    line.split_at(end.unwrap_or(line.len()))
+}
+
+// The text behind its first character, which is a blank.
+pub fn skip_blank(text: &[u8]) -> &[u8] {
+    text.get(1..).unwrap_or(&[])
 }

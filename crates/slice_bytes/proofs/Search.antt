@@ -1,62 +1,38 @@
--- Where none of the elements before a place is the one looked for, the first place is that of the rest.
-use Rattle.std.proofs.Common.{◌≡◌, ℕ, zero, suc, ◌+◌, ◌-◌, ◌<◌, ◌≤◌, List, [], ◌∷◌, eqb, false, length, get_or, take, drop, arith, sym, ◌∙◌, refl, ne_eqb, eq-eqb, add-zero, length-drop, length-take, get_or-take, get_or-drop}
+-- The first place of a number in a part of a list, by what stands before it and at it.
+use Rattle.std.proofs.Common.{◌≡◌, ℕ, ◌+◌, ◌-◌, ◌<◌, ◌≤◌, List, Bool, true, false, length, get_or, take, drop, eqb, cond, arith, refl, sym, ap, ◌∙◌}
+use Rattle.std.proofs.lemmas.List.{drop-take}
+use Rattle.std.proofs.lemmas.List.Recursion.{is_position_or_len}
+use Rattle.std.proofs.lemmas.List.Sums.{position_or_len_is}
 use Rattle.slice_bytes.specs.Place.{slice, index_after, index_of}
 
--- The first element is the one looked for.
-index_of-here : (b : ℕ) (xs : List ℕ) → 0 < length xs → get_or xs 0 0 ≡ b → index_of b xs ≡ 0
+-- The elements before the place are not the one looked for; that at the place is it, or the place is the end.
+index_of-is : (b : ℕ) (xs : List ℕ) (i : ℕ) → i ≤ length xs → ((k : ℕ) → k < i → eqb (get_or xs k 0) b ≡ false)
+    → (i < length xs → eqb (get_or xs i 0) b ≡ true) → index_of b xs ≡ i
 unfolding index_of index_after
-index_of-here b [] h e = omega arith
-index_of-here b (x ∷ xs) h e = rw (eq-eqb x b e) refl
+index_of-is b xs i h before here =
+    is_position_or_len (index_of b) (λ x. eqb x b) refl (λ x rest. next (eqb x b) (index_of b rest)) xs ∙ position_or_len_is (λ x. eqb x b) xs i 0 h before here
+  where
+    next : (t : Bool) (n : ℕ) → index_after t n ≡ cond t 0 (1 + n)
+    next true n = refl
+    next false n = omega arith
 
--- Elements that are not the one looked for are counted.
-index_of-passed : (b : ℕ) (xs : List ℕ) (n : ℕ) → n ≤ length xs → ((k : ℕ) → k < n → get_or xs k 0 ≡ b → ⊥) → index_of b xs ≡ n + index_of b (drop n xs)
-unfolding index_of index_after
-index_of-passed b xs zero h none = omega arith
-index_of-passed b [] (suc n) h none = omega arith
-index_of-passed b (x ∷ xs) (suc n) h none =
-    let first : eqb x b ≡ false = ne_eqb x b (none 0 (omega arith)) in
-    let rest : index_of b xs ≡ n + index_of b (drop n xs) = index_of-passed b xs n (omega arith) (λ k l. none (suc k) (omega arith)) in
-    rw first (omega (arith, rest))
+module _ (bytes : List ℕ) (from to b : ℕ) (ordered : from ≤ to) where
+  abbrev part : List ℕ
+  part = take (to - from) (drop from bytes)
 
--- Nothing is behind the end of a list.
-drop-whole : (n : ℕ) (xs : List ℕ) → length xs ≤ n → drop n xs ≡ []
-drop-whole zero [] h = refl
-drop-whole (suc n) [] h = refl
-drop-whole zero (x ∷ xs) h = absurd (omega arith)
-drop-whole (suc n) (x ∷ xs) h = drop-whole n xs (omega arith)
-
--- In no list there is nothing to count.
-index_of-empty : (b : ℕ) (xs : List ℕ) → xs ≡ [] → index_of b xs ≡ 0
-unfolding index_of
-index_of-empty b [] e = refl
-index_of-empty b (x ∷ xs) e = cc
-
-module _ (bytes : List ℕ) (from to i b : ℕ) (low : from ≤ i) (high : to ≤ length bytes) (none : (k : ℕ) → from ≤ k → k < i → get_or bytes k 0 ≡ b → ⊥) where
-  -- What the part between the places has at a place of its own.
-  part-at : (k : ℕ) → from + k < to → get_or (slice from to bytes) k 0 ≡ get_or bytes (from + k) 0
+  slice-part : slice from to bytes ≡ part
   unfolding slice
-  part-at k l = get_or-drop from (take to bytes) k 0 ∙ get_or-take to bytes (from + k) 0 l
+  slice-part =
+      let e : from + (to - from) ≡ to = omega arith in
+      sym (ap (λ (n : ℕ). drop from (take n bytes)) e) ∙ drop-take from (to - from) bytes
 
-  size : length (slice from to bytes) ≡ to - from
-  unfolding slice
-  size = simp (length-drop, length-take) (omega arith)
+  pub place-found : (i : ℕ) → i < length part → ((k : ℕ) → k < i → eqb (get_or part k 0) b ≡ false) → eqb (get_or part i 0) b ≡ true
+      → from + i ≡ from + index_of b (slice from to bytes)
+  place-found i inside before here =
+      ap (λ (n : ℕ). from + n) (sym (index_of-is b part i (omega arith) before (λ _. here)) ∙ ap (index_of b) (sym slice-part))
 
-  passed : i ≤ to → index_of b (slice from to bytes) ≡ (i - from) + index_of b (drop (i - from) (slice from to bytes))
-  passed h =
-      index_of-passed b (slice from to bytes) (i - from) (omega (arith, size))
-      (λ k l e. none (from + k) (omega arith) (omega arith) (sym (part-at k (omega arith)) ∙ e))
-
-  -- The byte stands at `i`.
-  pub found : i < to → get_or bytes i 0 ≡ b → i ≡ from + index_of b (slice from to bytes)
-  found h e =
-      let place : from + (i - from) ≡ i = omega arith in
-      let here : get_or (drop (i - from) (slice from to bytes)) 0 0 ≡ b =
-      get_or-drop (i - from) (slice from to bytes) 0 0 ∙ rw add-zero (part-at (i - from) (omega arith) ∙ rw place e) in
-      let some : 0 < length (drop (i - from) (slice from to bytes)) = rw length-drop (omega (arith, size)) in
-      omega (arith, passed (omega arith), index_of-here b (drop (i - from) (slice from to bytes)) some here)
-
-  -- It stands nowhere before `to`.
-  pub nowhere : i ≡ to → from ≤ to → to ≡ from + index_of b (slice from to bytes)
-  nowhere e l =
-      let none_left : drop (i - from) (slice from to bytes) ≡ [] = drop-whole (i - from) (slice from to bytes) (omega (arith, size)) in
-      omega (arith, passed (omega arith), index_of-empty b (drop (i - from) (slice from to bytes)) none_left)
+  pub found-nowhere : length part ≡ to - from → ((k : ℕ) → k < length part → eqb (get_or part k 0) b ≡ false) → to ≡ from + index_of b (slice from to bytes)
+  found-nowhere long before =
+      let e : index_of b (slice from to bytes) ≡ length part =
+      ap (index_of b) slice-part ∙ index_of-is b part (length part) (omega arith) before (λ h. absurd (omega arith)) in
+      omega arith

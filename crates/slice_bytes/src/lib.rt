@@ -10,8 +10,7 @@ pub fn copy(from: &[u8], to: &mut [u8])
     ensures kept { length to.new ≡ length to.old }
     ensures value { to.new ≡ take (length from.now) from.now ++ drop (length from.now) to.old }
 {
-    let (front, _) = to.split_at_mut(from.len());
-    front.copy_from_slice(from);
+    to[..from.len()].copy_from_slice(from);
 }
 
 // The first place between two at which a byte stands, or the second of them.
@@ -21,10 +20,8 @@ pub fn find(bytes: &[u8], from: usize, to: usize, byte: u8) -> usize
     ensures value { result ≡ from + index_of byte (slice from to bytes.now) }
     ensures bound { result ≤ to }
 {
-    for i in from..to {
-        if bytes[i] == byte {
-            return i;
-        }
+    match bytes[from..to].iter().position(|b| *b == byte) {
+        Some(i) => from + i,
+        None => to,
     }
-    to
 }

@@ -1,5 +1,9 @@
 -- The front of the rest of a trace case by case, in document 02's words and literals: each case has its answer, and there is no other case.
-use Rattle.std.specs.Prelude.{ℕ, zero, suc, ◌+◌, ◌*◌, ◌≤◌, ◌<◌, ◌≡◌, refl, ◌⊎◌, List, [], ◌∷◌, true, false, leb, length}
+use Rattle.std.specs.Prelude.{ℕ, zero, suc, ◌+◌, ◌*◌, ◌≤◌, ◌<◌, ◌≡◌, refl, ◌⊎◌, List, [], ◌∷◌, true, false, leb, length, Err, None, Ok, Option, Result}
+use Rattle.frame.specs.declared.refusal.Refusal.{Refusal}
+use Rattle.frame.specs.declared.refusal.Refusal.TheVariants as refusal
+use Rattle.trace.specs.Front.{found_record}
+use Rattle.trace.specs.declared.RecordFound.{RecordFound}
 use Rattle.std.proofs.Common.{sym, subst, ◌∙◌, inl, inr, arith, le-leb, ne_eqb}
 use Rattle.std.proofs.Math.Decide.{dec_le}
 use Rattle.std.proofs.lemmas.Bool.{lt-leb}
@@ -7,8 +11,6 @@ use Rattle.laws.specs.TestLaws.{pick_same}
 use Rattle.item_identifier.specs.Identifier.{identifier_of}
 use Rattle.trace.specs.Trace.{record_length, pulse_of, key_of, whole_record, front_of}
 use Rattle.trace.specs.declared.TraceRecord.TheVariants.{Byte, Silence, Pulse, Key, Settle}
-use Rattle.trace.specs.declared.Front.{Front}
-use Rattle.trace.specs.declared.Front.TheVariants.{Ended, Refused, Good}
 
 -- It begins with a byte that is no kind.
 pub data UnknownKind : List ℕ → Type 0 where
@@ -29,21 +31,21 @@ pub data BadField : List ℕ → Type 0 where
   bad-key : (on : ℕ) (more : List ℕ) → 1 < on → BadField (0x04 ∷ on ∷ more)
 
 -- What stands at the front, with its answer.
-pub data FrontCase : List ℕ → Front → Type 0 where
-  ended : FrontCase [] Ended
-  no_kind : {rest : List ℕ} → UnknownKind rest → FrontCase rest (Refused 9)
-  cut_off_lem : {rest : List ℕ} → CutOff rest → FrontCase rest (Refused 10)
-  bad-field : {rest : List ℕ} → BadField rest → FrontCase rest (Refused 9)
-  byte : {b : ℕ} {more : List ℕ} → FrontCase (0x01 ∷ b ∷ more) (Good (Byte b) 2)
-  silence : {more : List ℕ} → FrontCase (0x02 ∷ more) (Good Silence 1)
+pub data FrontCase : List ℕ → Result (Option RecordFound) Refusal → Type 0 where
+  ended : FrontCase [] (Ok None)
+  no_kind : {rest : List ℕ} → UnknownKind rest → FrontCase rest (Err refusal.BadRecord)
+  cut_off_lem : {rest : List ℕ} → CutOff rest → FrontCase rest (Err refusal.CutOff)
+  bad-field : {rest : List ℕ} → BadField rest → FrontCase rest (Err refusal.BadRecord)
+  byte : {b : ℕ} {more : List ℕ} → FrontCase (0x01 ∷ b ∷ more) (found_record (Byte b) 2)
+  silence : {more : List ℕ} → FrontCase (0x02 ∷ more) (found_record Silence 1)
   pulse : {direction rate a0 a1 a2 a3 : ℕ} {more : List ℕ} → direction ≤ 1 → 1 ≤ rate → rate ≤ 4
-      → FrontCase (0x03 ∷ direction ∷ rate ∷ a0 ∷ a1 ∷ a2 ∷ a3 ∷ more) (Good (Pulse direction rate (0x1000000 * a3 + 0x10000 * a2 + 0x100 * a1 + a0)) 7)
-  key_on_lem : {more : List ℕ} → FrontCase (0x04 ∷ 1 ∷ more) (Good (Key true) 2)
-  key_off : {more : List ℕ} → FrontCase (0x04 ∷ 0 ∷ more) (Good (Key false) 2)
-  settle : {more : List ℕ} → FrontCase (0x05 ∷ more) (Good Settle 1)
+      → FrontCase (0x03 ∷ direction ∷ rate ∷ a0 ∷ a1 ∷ a2 ∷ a3 ∷ more) (found_record (Pulse direction rate (0x1000000 * a3 + 0x10000 * a2 + 0x100 * a1 + a0)) 7)
+  key_on_lem : {more : List ℕ} → FrontCase (0x04 ∷ 1 ∷ more) (found_record (Key true) 2)
+  key_off : {more : List ℕ} → FrontCase (0x04 ∷ 0 ∷ more) (found_record (Key false) 2)
+  settle : {more : List ℕ} → FrontCase (0x05 ∷ more) (found_record Settle 1)
 
 -- A case's answer is what the definition gives.
-pub case_front : {rest : List ℕ} {front : Front} → FrontCase rest front → front_of rest ≡ front
+pub case_front : {rest : List ℕ} {front : Result (Option RecordFound) Refusal} → FrontCase rest front → front_of rest ≡ front
 unfolding front_of record_length whole_record pulse_of key_of identifier_of
 case_front ended = refl
 case_front (no_kind (unknown kind body no-1 no-2 no-3 no-4 no-5)) =
@@ -103,7 +105,7 @@ kind_case (suc (suc (suc (suc (suc (suc more)))))) = none (suc (suc (suc (suc (s
 
 -- Some case stands at every front: of a whole pulse, of a whole key, of each kind, and of any rest.
 abbrev SomeCase : List ℕ → Type 0
-SomeCase rest = (front : Front) × FrontCase rest front
+SomeCase rest = (front : Result (Option RecordFound) Refusal) × FrontCase rest front
 
 pulse_case : (direction rate a0 a1 a2 a3 : ℕ) (more : List ℕ) → SomeCase (0x03 ∷ direction ∷ rate ∷ a0 ∷ a1 ∷ a2 ∷ a3 ∷ more)
 pulse_case direction rate a0 a1 a2 a3 more =
@@ -146,7 +148,7 @@ every_case [] = (_, ended)
 every_case (kind ∷ body) = some_case (kind_case kind) body
 
 -- What the definition gives is a case's answer: there is no other case.
-pub front_case : {rest : List ℕ} {front : Front} → front_of rest ≡ front → FrontCase rest front
+pub front_case : {rest : List ℕ} {front : Result (Option RecordFound) Refusal} → front_of rest ≡ front → FrontCase rest front
 front_case {rest} {front} e =
     let found : SomeCase rest = every_case rest in
-    subst (λ (f : Front). FrontCase rest f) (sym (case_front found.1) ∙ e) found.1
+    subst (λ (f : Result (Option RecordFound) Refusal). FrontCase rest f) (sym (case_front found.1) ∙ e) found.1

@@ -1,6 +1,8 @@
 -- Laws of the front of the rest of a trace and of a trace read record by record: a good record is decided by its own bytes alone, and records
 -- written one behind the other are read back one by one.
-use Rattle.std.specs.Prelude.{ℕ, ◌+◌, ◌*◌, ◌/◌, ◌%◌, ◌≤◌, ◌≡◌, refl, true, false, List, [], ◌∷◌, ◌++◌, length, take, drop}
+use Rattle.std.specs.Prelude.{ℕ, ◌+◌, ◌*◌, ◌/◌, ◌%◌, ◌≤◌, ◌≡◌, refl, true, false, List, [], ◌∷◌, ◌++◌, length, take, drop, Err}
+use Rattle.frame.specs.declared.refusal.Refusal.TheVariants.{BadRecord}
+use Rattle.trace.specs.Front.{found_record}
 use Rattle.std.proofs.Common.{sym, ap, ◌∙◌, append_assoc, arith, take-append-drop, length-append}
 use Rattle.std.proofs.lemmas.List.{take-append-le, drop-append-le}
 use Rattle.std.proofs.Math.Seq.{drop-append_seam}
@@ -14,16 +16,15 @@ use Rattle.trace.specs.Records.{FieldsRight, record_bytes, written, ReadsAs, non
 use Rattle.trace.proofs.FrontCases.{FrontCase, no_kind, bad-field, byte, silence, pulse, key_on_lem, key_off, settle, unknown, bad_direction, bad-rate, bad-key, case_front, front_case}
 use Rattle.trace.specs.declared.TraceRecord.{TraceRecord}
 use Rattle.trace.specs.declared.TraceRecord.TheVariants.{Byte, Silence, Pulse, Key, Settle}
-use Rattle.trace.specs.declared.Front.TheVariants.{Refused, Good}
 
 -- A good record has 1 to 7 bytes, all of them there, and stands as well where anything else follows them.
 record Decided (rest : List ℕ) (r : TraceRecord) (n : ℕ) : Type 0 where
   within : n ≤ length rest
   least : 1 ≤ n
   most : n ≤ 7
-  alone : (more : List ℕ) → FrontCase (take n rest ++ more) (Good r n)
+  alone : (more : List ℕ) → FrontCase (take n rest ++ more) (found_record r n)
 
-decided : {rest : List ℕ} {r : TraceRecord} {n : ℕ} → FrontCase rest (Good r n) → Decided rest r n
+decided : {rest : List ℕ} {r : TraceRecord} {n : ℕ} → FrontCase rest (found_record r n) → Decided rest r n
 decided byte = record { within = omega arith; least = omega arith; most = omega arith; alone = λ more. byte }
 decided silence = record { within = omega arith; least = omega arith; most = omega arith; alone = λ more. silence }
 decided (pulse low least most) = record { within = omega arith; least = omega arith; most = omega arith; alone = λ more. pulse low least most }
@@ -32,28 +33,28 @@ decided key_off = record { within = omega arith; least = omega arith; most = ome
 decided settle = record { within = omega arith; least = omega arith; most = omega arith; alone = λ more. settle }
 
 -- All its bytes are there.
-pub good-within : (rest : List ℕ) {r : TraceRecord} {n : ℕ} → front_of rest ≡ Good r n → n ≤ length rest
+pub good-within : (rest : List ℕ) {r : TraceRecord} {n : ℕ} → front_of rest ≡ found_record r n → n ≤ length rest
 good-within rest good = (decided (front_case good)).within
 
 -- There are 1 to 7 of them.
-pub good-size : (rest : List ℕ) {r : TraceRecord} {n : ℕ} → front_of rest ≡ Good r n → (1 ≤ n) × (n ≤ 7)
+pub good-size : (rest : List ℕ) {r : TraceRecord} {n : ℕ} → front_of rest ≡ found_record r n → (1 ≤ n) × (n ≤ 7)
 good-size rest good = let d = decided (front_case good) in (d.least, d.most)
 
 -- A good record is decided by its own bytes alone, whatever follows.
-pub good_local : (rest other : List ℕ) {r : TraceRecord} {n : ℕ} → front_of rest ≡ Good r n → take n other ≡ take n rest → front_of other ≡ Good r n
+pub good_local : (rest other : List ℕ) {r : TraceRecord} {n : ℕ} → front_of rest ≡ found_record r n → take n other ≡ take n rest → front_of other ≡ found_record r n
 good_local rest other {r} {n} good same =
     let split : take n rest ++ drop n other ≡ other = rw (sym same) (take-append-drop n other) in
     rw (sym split) (case_front ((decided (front_case good)).alone (drop n other)))
 
 -- A good record stays one where the trace goes on.
-pub good-stays : (rest more : List ℕ) {r : TraceRecord} {n : ℕ} → front_of rest ≡ Good r n → front_of (rest ++ more) ≡ Good r n
+pub good-stays : (rest more : List ℕ) {r : TraceRecord} {n : ℕ} → front_of rest ≡ found_record r n → front_of (rest ++ more) ≡ found_record r n
 good-stays rest more {r} {n} good = good_local rest (rest ++ more) good (take-append-le n rest more (good-within rest good))
 
 -- A refusal 9 is decided by what is there: it stays one where the trace goes on.
-pub bad-stays : (rest more : List ℕ) → front_of rest ≡ Refused 9 → front_of (rest ++ more) ≡ Refused 9
+pub bad-stays : (rest more : List ℕ) → front_of rest ≡ Err BadRecord → front_of (rest ++ more) ≡ Err BadRecord
 bad-stays rest more bad = case_front (stays (front_case bad))
   where
-    stays : {rest : List ℕ} → FrontCase rest (Refused 9) → FrontCase (rest ++ more) (Refused 9)
+    stays : {rest : List ℕ} → FrontCase rest (Err BadRecord) → FrontCase (rest ++ more) (Err BadRecord)
     stays (no_kind (unknown kind body no-1 no-2 no-3 no-4 no-5)) = no_kind (unknown kind (body ++ more) no-1 no-2 no-3 no-4 no-5)
     stays (bad-field (bad_direction direction body whole above)) = bad-field (bad_direction direction (body ++ more) (omega (arith, length-append body more)) above)
     stays (bad-field (bad-rate direction rate body whole out)) = bad-field (bad-rate direction rate (body ++ more) (omega (arith, length-append body more)) out)
@@ -73,11 +74,11 @@ pub record GoodFront (rest : List ℕ) (r : TraceRecord) (n : ℕ) : Type 0 wher
   pub size : n ≡ length (record_bytes r)
   pub bytes : take n rest ≡ record_bytes r
 
-pub good-bytes : (rest : List ℕ) {r : TraceRecord} {n : ℕ} → Bytes rest → front_of rest ≡ Good r n → GoodFront rest r n
+pub good-bytes : (rest : List ℕ) {r : TraceRecord} {n : ℕ} → Bytes rest → front_of rest ≡ found_record r n → GoodFront rest r n
 unfolding record_bytes
 good-bytes rest {r} {n} bytes good = written-there (front_case good) bytes
   where
-    written-there : {rest : List ℕ} {r : TraceRecord} {n : ℕ} → FrontCase rest (Good r n) → Bytes rest → GoodFront rest r n
+    written-there : {rest : List ℕ} {r : TraceRecord} {n : ℕ} → FrontCase rest (found_record r n) → Bytes rest → GoodFront rest r n
     written-there byte are = record { fields = are.1.0; size = refl; bytes = refl }
     written-there silence are = record { fields = tt; size = refl; bytes = refl }
     written-there (pulse {a0 = a0} {a1 = a1} {a2 = a2} {a3 = a3} low least most) are =
@@ -89,14 +90,14 @@ good-bytes rest {r} {n} bytes good = written-there (front_case good) bytes
     written-there settle are = record { fields = tt; size = refl; bytes = refl }
 
 -- A record written is read back.
-pub front-written : (r : TraceRecord) (more : List ℕ) → FieldsRight r → front_of (record_bytes r ++ more) ≡ Good r (length (record_bytes r))
+pub front-written : (r : TraceRecord) (more : List ℕ) → FieldsRight r → front_of (record_bytes r ++ more) ≡ found_record r (length (record_bytes r))
 unfolding record_bytes identifier_bytes identifier_of
 front-written (Byte b) more right = case_front byte
 front-written Silence more right = case_front silence
 front-written (Pulse direction rate amount) more (low, least, most, fits) =
     let whole : 0x1000000 * (amount / 16777216 % 256) + 0x10000 * (amount / 65536 % 256) + 0x100 * (amount / 256 % 256) + amount % 256 ≡ amount =
     omega (arith, identifier-back amount [] fits) in
-    case_front (pulse low least most) ∙ ap (λ (a : ℕ). Good (Pulse direction rate a) 7) whole
+    case_front (pulse low least most) ∙ ap (λ (a : ℕ). found_record (Pulse direction rate a) 7) whole
 front-written (Key true) more right = case_front key_on_lem
 front-written (Key false) more right = case_front key_off
 front-written Settle more right = case_front settle

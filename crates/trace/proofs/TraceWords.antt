@@ -1,6 +1,9 @@
 -- Document 02's words on the records of a trace: exactly when the trace has ended, when it is refused with 9, when with 10, and when a record
 -- stands at its front, and which.
-use Rattle.std.specs.Prelude.{ℕ, ◌+◌, ◌*◌, ◌≡◌, refl, ◌↔◌, ◌⊎◌, List, [], ◌∷◌, ◌++◌, length, drop}
+use Rattle.frame.specs.declared.refusal.Refusal.{Refusal}
+use Rattle.std.specs.Prelude.{ℕ, ◌+◌, ◌*◌, ◌≡◌, refl, ◌↔◌, ◌⊎◌, List, [], ◌∷◌, ◌++◌, length, drop, Err, None, Ok}
+use Rattle.trace.specs.Front.{found_record}
+use Rattle.frame.specs.declared.refusal.Refusal.TheVariants as refusal
 use Rattle.std.proofs.Common.{sym, ap, ◌∙◌, inl, inr, take-append-drop}
 use Rattle.laws.specs.Memory.{Bytes}
 use Rattle.trace.specs.Trace.{front_of}
@@ -9,7 +12,6 @@ use Rattle.trace.proofs.FrontCases.{UnknownKind, CutOff, BadField, FrontCase, en
 use Rattle.trace.proofs.TraceLaws.{amount-bytes, GoodFront, good-bytes, front-written}
 use Rattle.trace.specs.declared.TraceRecord.{TraceRecord}
 use Rattle.trace.specs.declared.TraceRecord.TheVariants.{Pulse}
-use Rattle.trace.specs.declared.Front.TheVariants.{Ended, Refused, Good}
 
 -- "03: a pulse, as direction, rate, and four amount bytes low first."
 pub amount-low-first : (direction rate a0 a1 a2 a3 : ℕ) → Bytes (a0 ∷ a1 ∷ a2 ∷ a3 ∷ [])
@@ -20,12 +22,12 @@ amount-low-first direction rate a0 a1 a2 a3 bytes = rw (amount-bytes a0 a1 a2 a3
 -- The front of the rest of a trace: the end where nothing is left; 9 for an unknown kind, and for a field out of its range in a whole record;
 -- 10 for a trace ending inside the record; no other refusal; a record and its length where it stands there, its fields within their ranges.
 pub record FrontWords (rest : List ℕ) : Type 0 where
-  pub ended : (front_of rest ≡ Ended) ↔ (rest ≡ [])
-  pub bad : (front_of rest ≡ Refused 9) ↔ (UnknownKind rest ⊎ BadField rest)
-  pub cut : (front_of rest ≡ Refused 10) ↔ CutOff rest
-  pub others : (n : ℕ) → front_of rest ≡ Refused n → (n ≡ 9) ⊎ (n ≡ 10)
+  pub ended : (front_of rest ≡ Ok None) ↔ (rest ≡ [])
+  pub bad : (front_of rest ≡ Err refusal.BadRecord) ↔ (UnknownKind rest ⊎ BadField rest)
+  pub cut : (front_of rest ≡ Err refusal.CutOff) ↔ CutOff rest
+  pub others : (n : Refusal) → front_of rest ≡ Err n → (n ≡ refusal.BadRecord) ⊎ (n ≡ refusal.CutOff)
   pub good : (r : TraceRecord) (n : ℕ)
-      → (front_of rest ≡ Good r n) ↔ (FieldsRight r × (n ≡ length (record_bytes r)) × ((more : List ℕ) × (rest ≡ record_bytes r ++ more)))
+      → (front_of rest ≡ found_record r n) ↔ (FieldsRight r × (n ≡ length (record_bytes r)) × ((more : List ℕ) × (rest ≡ record_bytes r ++ more)))
 
 -- The front is these words' for every trace of bytes.
 pub front-words : (rest : List ℕ) → Bytes rest → FrontWords rest
@@ -38,26 +40,26 @@ front-words rest bytes =
       good = λ r n. (there r n, λ (right, size, behind). rw (behind.1, size) (front-written r behind.0 right));
     }
   where
-    empty : {rest : List ℕ} → FrontCase rest Ended → rest ≡ []
+    empty : {rest : List ℕ} → FrontCase rest (Ok None) → rest ≡ []
     empty ended = refl
 
-    refused : {rest : List ℕ} → FrontCase rest (Refused 9) → UnknownKind rest ⊎ BadField rest
+    refused : {rest : List ℕ} → FrontCase rest (Err refusal.BadRecord) → UnknownKind rest ⊎ BadField rest
     refused (no_kind u) = inl u
     refused (bad-field b) = inr b
 
-    bad-front : UnknownKind rest ⊎ BadField rest → front_of rest ≡ Refused 9
+    bad-front : UnknownKind rest ⊎ BadField rest → front_of rest ≡ Err refusal.BadRecord
     bad-front (inl u) = case_front (no_kind u)
     bad-front (inr b) = case_front (bad-field b)
 
-    number : {rest : List ℕ} {n : ℕ} → FrontCase rest (Refused n) → (n ≡ 9) ⊎ (n ≡ 10)
+    number : {rest : List ℕ} {n : Refusal} → FrontCase rest (Err n) → (n ≡ refusal.BadRecord) ⊎ (n ≡ refusal.CutOff)
     number (no_kind u) = inl refl
     number (cut_off_lem c) = inr refl
     number (bad-field b) = inl refl
 
-    cut-there : {rest : List ℕ} → FrontCase rest (Refused 10) → CutOff rest
+    cut-there : {rest : List ℕ} → FrontCase rest (Err refusal.CutOff) → CutOff rest
     cut-there (cut_off_lem c) = c
 
-    there : (r : TraceRecord) (n : ℕ) → front_of rest ≡ Good r n
+    there : (r : TraceRecord) (n : ℕ) → front_of rest ≡ found_record r n
         → FieldsRight r × (n ≡ length (record_bytes r)) × ((more : List ℕ) × (rest ≡ record_bytes r ++ more))
     there r n good =
         let front : GoodFront rest r n = good-bytes rest bytes good in

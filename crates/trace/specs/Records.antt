@@ -1,12 +1,12 @@
 -- A record in words: which fields are within their ranges, and its bytes. Records written one behind the other, and a trace read record by record
 -- from the left.
 use Rattle.std.specs.Prelude.{ℕ, ◌≤◌, ◌<◌, ◌≡◌, List, [], ◌∷◌, ◌++◌, Bool, true, false, drop}
+use Rattle.trace.specs.Front.{found_record}
 use Rattle.laws.specs.Memory.{IsByte}
 use Rattle.item_identifier.specs.Identifier.{identifier_bytes}
 use Rattle.trace.specs.Trace.{front_of}
 use Rattle.trace.specs.declared.TraceRecord.{TraceRecord}
 use Rattle.trace.specs.declared.TraceRecord.TheVariants.{Byte, Silence, Pulse, Key, Settle}
-use Rattle.trace.specs.declared.Front.TheVariants.{Good}
 
 -- Every field is within its range: a received byte, a direction 0 or 1, a rate 1 to 4, an amount of 32 bits.
 abbrev pub FieldsRight : TraceRecord → Type 0
@@ -37,5 +37,5 @@ written (r ∷ rs) = record_bytes r ++ written rs
 -- A trace read record by record from the left: these good records, and then this rest.
 pub data ReadsAs : List ℕ → List TraceRecord → List ℕ → Type 0 where
   none : {rest : List ℕ} → ReadsAs rest [] rest
-  next : {trace rest : List ℕ} {r : TraceRecord} {rs : List TraceRecord} {n : ℕ} → front_of trace ≡ Good r n → ReadsAs (drop n trace) rs rest →
+  next : {trace rest : List ℕ} {r : TraceRecord} {rs : List TraceRecord} {n : ℕ} → front_of trace ≡ found_record r n → ReadsAs (drop n trace) rs rest →
       ReadsAs trace (r ∷ rs) rest

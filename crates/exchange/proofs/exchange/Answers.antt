@@ -1,6 +1,7 @@
 -- The tests say which case of `exchanged` holds. An allowed request is four FE and a frame; so the frame is heard and handed to the meter, and
 -- what is concluded from the meter's answer is what the exchange comes to.
 use Prim.Native.Nat.{ℕ}
+use Rattle.std.specs.Prelude.{Ok}
 use mathlib.Core.Path.{◌≡◌, sym, ◌∙◌}
 use mathlib.Core.Bool.{true}
 use borrow.Author.Rules.{rules}
@@ -12,7 +13,6 @@ use Rattle.meter.specs.Answer.{answered}
 use Rattle.reader.specs.Allowed.{is_allowed}
 use Rattle.reader.specs.Building.{request_frame, request_bytes}
 use Rattle.reader.specs.Allowed as reader
-use Rattle.reader.specs.declared.Built.TheVariants.{Length}
 use Rattle.exchange.specs.Exchange.{Memories, memories, enough, exchanged}
 use Rattle.exchange.specs.ExchangeTerms.{EnoughMemory}
 use Rattle.exchange.proofs.ExchangeLaws.{enough-memory, built-puts, built-refuses, heard-puts, reply-within, carried-through, request_shape}
@@ -51,7 +51,7 @@ abbrev entry : After-build → Start
 entry c = start_of (ranges_of (room_of c))
 
 -- the meter is within its ranges
-ranges : (c : Else-not-is_within_ranges) → meter.within_ranges (start_of c).args.meter (start_of c).args.forward (start_of c).args.reverse ≡ true
+ranges : (c : Else-not-is_within_ranges) → meter.within_ranges (start_of c).args.meter (start_of c).args.energies.forward (start_of c).args.energies.reverse ≡ true
 ranges c = sym c.is_within_ranges.ensures ∙ c.if-not-is_within_ranges.false
 
 -- there is memory enough
@@ -61,7 +61,7 @@ is_room c = sym c.is_enough.ensures ∙ c.if-not-is_enough.false
 room : (c : Else-not-is_enough) → EnoughMemory (lent (start_of (ranges_of c)))
 room c = enough-memory (lent (start_of (ranges_of c))) (is_room c)
 
-module _ (c : After-build) (n : ℕ) (is : c.build.result ≡ Length n) where
+module _ (c : After-build) (n : ℕ) (is : c.build.result ≡ Ok n) where
   -- the request is allowed, and its bytes are put into the memory for it
   sends : let s = entry c in (is_allowed s.args.request ≡ true) × Puts (request_bytes s.args.request) n s.args.sent.now c.build.new.out
   sends = built-puts _ (room (room_of c)).sent c.build.ensures is
@@ -73,12 +73,12 @@ module _ (c : After-build) (n : ℕ) (is : c.build.result ≡ Length n) where
 -- their frame is put into the memory of the receiver
 hears : (c : After-hear-delivered) → let s = entry (built_of c) in
     Puts (request_frame s.args.request) c.hear-delivered.result s.args.heard.now c.hear-delivered.new.heard
-hears c = heard-puts _ (given-bytes (built_of c) _ c.in-Length.is) c.hear-delivered.ensures
+hears c = heard-puts _ (given-bytes (built_of c) _ c.in-Ok.is) c.hear-delivered.ensures
 
 -- it is what the meter is given, and answers
 answers : (c : After-answer-answered) → let s = entry (built_of (heard_of c)) in
     outcome c.answer-answered.result c.answer-answered.new.out
-    ≡ answered (request_frame s.args.request) s.args.meter s.args.forward s.args.reverse s.args.reply.now
+    ≡ answered (request_frame s.args.request) s.args.meter s.args.energies.forward s.args.energies.reverse s.args.reply.now
 answers c = rw (front-put (hears (heard_of c))) at c.answer-answered.ensures
 
 pub returns-then-not-is_within_ranges : goal.returns-then-not-is_within_ranges
@@ -98,16 +98,16 @@ returns-in_default c =
     rw (ranges (ranges_of (room_of b)), is_room (room_of b), refusal.0, refusal.1, c.refused-in_default.ensures)
 
 pub slice_bounds-hear-end : goal.slice_bounds-hear-end
-slice_bounds-hear-end c = front-within (sends (goal.at.slice_bounds-hear-end c).After-build _ c.in-Length.is).1
+slice_bounds-hear-end c = front-within (sends (goal.at.slice_bounds-hear-end c).After-build _ c.in-Ok.is).1
 
 pub slice_bounds-hear-end-2 : goal.slice_bounds-hear-end-2
-slice_bounds-hear-end-2 c = sym (length-take-le _ _ (front-within (sends (goal.at.slice_bounds-hear-end-2 c).After-build _ c.in-Length.is).1))
+slice_bounds-hear-end-2 c = sym (length-take-le _ _ (front-within (sends (goal.at.slice_bounds-hear-end-2 c).After-build _ c.in-Ok.is).1))
 
 pub hear-delivered-requires : goal.hear-delivered-requires
 hear-delivered-requires c =
     let b = (goal.at.hear-delivered-requires c).After-build in
     record {
-      wake_up_frame = request_shape _ (given-bytes b _ c.in-Length.is) (request-sized (entry b)) (sends b _ c.in-Length.is).0;
+      wake_up_frame = request_shape _ (given-bytes b _ c.in-Ok.is) (request-sized (entry b)) (sends b _ c.in-Ok.is).0;
       most_frame_in_bounds = (room (room_of b)).heard;
     }
 
@@ -129,7 +129,7 @@ returns c =
     let h = heard_of a in
     let b = built_of h in
     let s = entry b in
-    let sent = sends b _ c.in-Length.is in
+    let sent = sends b _ c.in-Ok.is in
     rw (ranges (ranges_of (room_of b)), is_room (room_of b), sent.0)
-    (carried-through s.args.request s.args.meter s.args.forward s.args.reverse (lent s) sent.1.memory (hears h) (answers a)
+    (carried-through s.args.request s.args.meter s.args.energies.forward s.args.energies.reverse (lent s) sent.1.memory (hears h) (answers a)
     c.conclude.ensures)

@@ -1,10 +1,7 @@
--- The invariant: the four sums together, wrapped, are the checksum of the bytes passed.
-use Rattle.std.proofs.Common.{◌≡◌, ◌+◌, ◌-◌, ◌%◌, ◌≤◌, length, take}
-use Rattle.frame.specs.Frame.{checksum_of}
+-- The bytes are those passed, whole fours, and those left, and the sum is the checksum of those passed.
+use Rattle.std.specs.Slice.Iter.{chunks_exact_rest, chunks_exact_size}
+use Rattle.frame.proofs.ChecksumLaws.{Fours}
 use Rattle.frame.proofs.checksum.Given as goal
 
-abbrev pub invariant-loop-i : goal.invariant-loop-i
-invariant-loop-i l = (l.i ≤ length l.bytes) × (checksum_of (take l.i l.bytes) ≡ (l.first + l.second + (l.third + l.fourth)) % 256)
-
-abbrev pub decreases-loop-i : goal.decreases-loop-i
-decreases-loop-i l = length l.bytes - l.i
+abbrev pub invariant-loop-four : goal.invariant-loop-four
+invariant-loop-four l = Fours l.bytes (chunks_exact_size l.four-iterator) (chunks_exact_rest l.four-iterator) l.sum

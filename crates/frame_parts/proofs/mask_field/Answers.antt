@@ -17,13 +17,13 @@ unpassed {xs} {zs} {i} m h =
 whole : (xs zs : List ℕ) → zs ≡ over (map masked xs) xs → zs ≡ map masked xs
 whole xs zs e = e ∙ rw (length-map, drop-length) (append-nil (map masked xs))
 
-pub loop-i-preserved : goal.loop-i-preserved
-loop-i-preserved c =
-    let inv = c.loop-i.invariant in
-    let more = rw inv.kept at c.loop-i-test.true in
+pub loop-b-preserved : goal.loop-b-preserved
+loop-b-preserved c =
+    let inv = c.loop-b.invariant in
+    let more = c.loop-b-test.true in
     mapping_next inv more (c.mask.ensures ∙ ap masked (unpassed inv more))
 
 pub returns : goal.returns
 returns c =
-    let inv = c.loop-i.invariant in
-    whole c.args.field.now _ (mapping_end inv (omega (arith, inv.kept, c.loop-i-test.false)))
+    let inv = c.loop-b.invariant in
+    whole c.args.field.now _ (mapping_end inv (c.loop-b-test.false))

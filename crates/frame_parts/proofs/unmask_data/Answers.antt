@@ -35,5 +35,5 @@ returns c =
     let bytes = c.args.bytes.now in
     let m = c.args.payload.now in
     let lent : 10 + get_or bytes 9 0 - 10 ≡ get_or bytes 9 0 = omega arith in
-    ap (λ (l : List ℕ). outcome (get_or bytes 9 0) l) (c.unmask_field.ensures ∙ ap (λ (k : ℕ). over (map unmasked (part 10 k bytes)) m) lent)
+    ap (λ (l : List ℕ). outcome (get_or bytes 9 0) l) (c.write_field.ensures unmasked (λ b r e. e) ∙ ap (λ (k : ℕ). over (map unmasked (part 10 k bytes)) m) lent)
     ∙ sym (data_there bytes c.if-bytes-length.false m c.if-length-gt200.false)

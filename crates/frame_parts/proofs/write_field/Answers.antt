@@ -1,9 +1,6 @@
--- The laws of `Mapping` say what a turn and the end make of it.
-use Rattle.laws.specs.MemoryLaws.{mapping_next, mapping_end}
+-- The laws of `Mapping` say what a turn makes of it.
+use Rattle.laws.specs.MemoryLaws.{mapping_next}
 use Rattle.frame_parts.proofs.write_field.Goals as goal
 
 pub loop-i-preserved : goal.loop-i-preserved
-loop-i-preserved c = mapping_next c.loop-i.invariant c.loop-i-test.true c.mask.ensures
-
-pub returns : goal.returns
-returns c = mapping_end c.loop-i.invariant c.loop-i-test.false
+loop-i-preserved g c = λ f h. mapping_next (c.loop-i.invariant f h) c.loop-i-test.true (h _ _ c.through.ensures)

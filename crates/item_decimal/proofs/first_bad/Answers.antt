@@ -1,22 +1,14 @@
--- The laws of `decimal-walk` say what a turn of the loop and its end make of the bytes passed.
-use mathlib.Core.Path.{sym, ◌∙◌}
-use Rattle.laws.specs.Walk.{walked_start, walked_next, walked_stops, walked_end}
+-- What `position` says of the bytes makes a walk over them that stops at the first bad one.
+use Rattle.std.specs.Prelude.{ℕ, ◌≡◌, refl, Option, Some, None}
+use Rattle.std.proofs.Common.{rules}
 use Rattle.item_decimal.specs.Decimal.{first_bad}
-use Rattle.item_decimal.proofs.DecimalLaws.{decimal-walk}
+use Rattle.item_decimal.proofs.DecimalLaws.{stopped, walked-through}
 use Rattle.item_decimal.proofs.first_bad.Goals as goal
+use Rattle.item_decimal.proofs.first_bad.Goals.{After-position}
 
-pub loop-i-init : goal.loop-i-init
-loop-i-init c = walked_start
-
-pub returns-then-not-is_decimal : goal.returns-then-not-is_decimal
-unfolding first_bad
-returns-then-not-is_decimal c =
-    sym (walked_stops (decimal-walk _) c.loop-i.invariant c.loop-i-test.true (sym c.is_decimal.ensures ∙ c.if-not-is_decimal.true))
-
-pub loop-i-preserved : goal.loop-i-preserved
-loop-i-preserved c =
-    walked_next (decimal-walk _) c.loop-i.invariant c.loop-i-test.true (sym c.is_decimal.ensures ∙ c.if-not-is_decimal.false)
+found : (c : After-position) (r : Option ℕ) → c.position.result ≡ r → r ≡ first_bad c.args.bytes.now
+found c (Some i) e = stopped _ _ (search rules) (λ k h. search rules) (search rules)
+found c None e = walked-through _ (λ k h. search rules)
 
 pub returns : goal.returns
-unfolding first_bad
-returns c = sym (walked_end (decimal-walk _) c.loop-i.invariant c.loop-i-test.false)
+returns c = found c _ refl

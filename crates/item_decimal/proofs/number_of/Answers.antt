@@ -1,30 +1,28 @@
 -- The laws of `Unpacking` say what a turn of the loop and its end make of the number; nine decimal bytes hold one that fits.
-use native.Mathlib.Omega.{arith}
-use Prim.Native.Nat.{◌+◌, ◌-◌, ◌*◌}
+use Rattle.std.proofs.Common.{◌+◌, ◌*◌, length, arith}
+use Rattle.std.proofs.lemmas.List.{length_push}
+use Rattle.std.proofs.lemmas.Iterator.Adapters.{YieldsList-from_rev_slice}
+use Rattle.std.proofs.lemmas.Iterator.Consumers.{YieldsList-turn}
+use Rattle.item_decimal.specs.Decimal.{digits}
 use Rattle.item_decimal.proofs.DecimalLaws.{all-decimal}
-use Rattle.item_decimal.proofs.PackLaws.{Unpacking, unpacking-start, unpacking-next, unpacking-below, unpacking-end}
+use Rattle.item_decimal.proofs.PackLaws.{Unpacking, unpacking-start, unpacking-next, unpacking-below}
 use Rattle.item_decimal.proofs.number_of.Goals as goal
-use Rattle.item_decimal.proofs.number_of.Goals.{After-digits_of-pair, At-loop-left, In-loop-left}
+use Rattle.item_decimal.proofs.number_of.Goals.{In-Some}
 
-pub loop-left-init : goal.loop-left-init
-loop-left-init c = unpacking-start c.requires.bytes_len_bound (all-decimal _ c.requires.bytes_value)
+pub loop-b-init : goal.loop-b-init
+loop-b-init c = unpacking-start c.requires.bytes_len_bound (all-decimal _ c.requires.bytes_value)
 
 -- one byte more is unpacked
-turn : (c : After-digits_of-pair) →
-    let at_loop = (goal.at.After-digits_of-pair c).At-loop-left in
-    Unpacking at_loop.args.bytes.now (100 * at_loop.loop-left.number + c.digits_of-pair.result) (at_loop.loop-left.left - 1)
+turn : (c : In-Some) → Unpacking c.args.bytes.now (100 * c.loop-b.number + digits c.in-Some.b.now) (length c.loop-b.yielded + 1)
 turn c =
-    let in_loop = (goal.at.After-digits_of-pair c).In-loop-left in
-    unpacking-next in_loop.loop-left.invariant in_loop.loop-left-test.true c.digits_of-pair.ensures
+    unpacking-next c.loop-b.invariant
+    (YieldsList-turn (YieldsList-from_rev_slice c.args.bytes.now cc) c.loop-b.yielded _ c.loop-b.yielded_by _ _ c.in-Some.b c.in-Some.is c.next.ensures.steps)
 
 pub overflow_mul-number : goal.overflow_mul-number
 overflow_mul-number c = omega (arith, unpacking-below (turn c))
 
 pub overflow_add-number : goal.overflow_add-number
-overflow_add-number c = omega (arith, unpacking-below (turn c))
+overflow_add-number c = omega (arith, unpacking-below (turn (goal.at.overflow_add-number c).In-Some))
 
-pub loop-left-preserved : goal.loop-left-preserved
-loop-left-preserved c = turn c
-
-pub returns : goal.returns
-returns c = unpacking-end c.loop-left.invariant c.loop-left-test.false
+pub loop-b-preserved : goal.loop-b-preserved
+loop-b-preserved c = rw (c.from.ensures, c.digits_of.ensures, length_push) (turn (goal.at.loop-b-preserved c).In-Some)

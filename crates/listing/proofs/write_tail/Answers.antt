@@ -1,7 +1,7 @@
 -- The text's length says that there is room, and in each of the two cases a law says that what is stored is what stands behind the
 -- control code. The lent part of the frame is its data field.
 use Rattle.std.proofs.Common.{ℕ, ◌+◌, ◌*◌, ◌-◌, ◌≤◌, ◌≡◌, sym, ◌∙◌, List, length, get_or, arith, length-set, length-take, length-drop}
-use Rattle.frame.specs.Frame.{length_of, field_of, data_of}
+use Rattle.frame.specs.Frame.{length_of, field_of, data_of, unmasked}
 use Rattle.listing.specs.Text.{text_length}
 use Rattle.listing.proofs.TextLaws.{length-least, length_none, length_some, no_data_stored, data_stored}
 use Rattle.listing.proofs.write_tail.Goals as goal
@@ -27,15 +27,15 @@ some c = record { spans = c.requires.0; room = omega (arith, length_some _ c.if-
 pub bounds-out-15-2 : goal.bounds-out-15-2
 bounds-out-15-2 c = omega (arith, some (goal.at.bounds-out-15-2 c).Else-count-eq0)
 
-pub slice_bounds-write_data-end : goal.slice_bounds-write_data-end
-slice_bounds-write_data-end c = omega (arith, some (goal.at.slice_bounds-write_data-end c).Else-count-eq0)
+pub slice_bounds-write_digits-end : goal.slice_bounds-write_digits-end
+slice_bounds-write_digits-end c = omega (arith, some (goal.at.slice_bounds-write_digits-end c).Else-count-eq0)
 
-pub write_data-requires : goal.write_data-requires
-write_data-requires c = simp (length-set, length-take, length-drop) (omega (arith, some (goal.at.write_data-requires c).Else-count-eq0))
+pub write_digits-requires-clause-room : goal.write_digits-requires-clause-room
+write_digits-requires-clause-room c = simp (length-set, length-take, length-drop) (omega (arith, some (goal.at.write_digits-requires-clause-room c).Else-count-eq0))
 
 pub bounds-out-last : goal.bounds-out-last
 bounds-out-last c =
-    omega (arith, some (goal.at.bounds-out-last c).Else-count-eq0, c.write_data.auto.out ∙ length-set c.args.out.now 15 0x20)
+    omega (arith, some (goal.at.bounds-out-last c).Else-count-eq0, c.write_digits.auto.out ∙ length-set c.args.out.now 15 0x20)
 
 pub returns : goal.returns
 unfolding length_of field_of data_of
@@ -43,4 +43,4 @@ returns c =
     let frame = c.args.frame.now in
     let all : 10 + get_or frame 9 0 - 10 ≡ get_or frame 9 0 = omega arith in
     let long : 16 + 2 * get_or frame 9 0 + 1 ≡ text_length (get_or frame 9 0) = omega (arith, length_some (get_or frame 9 0) c.if-count-eq0.false) in
-    (long, rw (c.write_data.ensures, all) (data_stored frame c.requires.0 c.args.out.now c.if-count-eq0.false))
+    (long, rw (c.write_digits.ensures unmasked (λ b r e. e), all) (data_stored frame c.requires.0 c.args.out.now c.if-count-eq0.false))

@@ -7,5 +7,5 @@ use Rattle.meter_holding.proofs.with_value.Goals as goal
 
 pub put-requires : goal.put-requires
 put-requires c =
-    let fits : FitsAt c.in-Listed.item.length (Register c.in-Register.at) = rw (sym c.in-Register.ensures) at (listed_fits_at _ c.in-Listed.item (sym c.in-Listed.ensures)) in
+    let fits : FitsAt c.in-Some.item.length (Register c.in-Register.at) = rw (sym c.in-Register.ensures) at (listed_fits_at _ c.in-Some.item (sym c.in-Some.ensures)) in
     omega (arith, fits)

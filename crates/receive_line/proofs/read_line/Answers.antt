@@ -2,8 +2,8 @@
 use Rattle.receive_line.proofs.WholeLineLaws.{line_read}
 use Rattle.receive_line.proofs.read_line.Goals as goal
 
-pub returns-in-Refused : goal.returns-in-Refused
-returns-in-Refused c = line_read c.args.input.now c.args.out.now _ _ c.in-Refused.ensures
+pub returns-in-Err : goal.returns-in-Err
+returns-in-Err c = line_read c.args.input.now c.args.out.now _ _ c.in-Err.ensures
 
-pub returns-in-Delivered : goal.returns-in-Delivered
-returns-in-Delivered c = line_read c.args.input.now c.args.out.now _ _ c.in-Delivered.ensures
+pub returns-in-Ok : goal.returns-in-Ok
+returns-in-Ok c = line_read c.args.input.now c.args.out.now _ _ c.in-Ok.ensures

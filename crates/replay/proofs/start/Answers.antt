@@ -4,4 +4,4 @@ use Rattle.replay.proofs.start.Goals as goal
 
 pub returns : goal.returns
 unfolding started
-returns c = rw (c.new-receiver.ensures, c.fresh-created.ensures)
+returns c = rw (c.new.ensures, c.fresh-answer.ensures)

@@ -1,39 +1,32 @@
 -- The tests say which refusal it is. A turn of the loop and the way out are the laws of its invariant.
-use Rattle.std.proofs.Common.{◌*◌, ◌≤◌, ◌<◌, ◌≡◌, sym, ◌∙◌, length, le-leb, arith, rules}
+use Rattle.std.proofs.Common.{◌*◌, ◌≤◌, ◌<◌, sym, ◌∙◌, length, le-leb, arith, rules}
 use Rattle.std.proofs.lemmas.Bool.{lt-leb}
-use Rattle.meter.specs.Meter.{MeterSized, within_ranges}
+use Rattle.meter.specs.Meter.{MeterSized}
 use Rattle.replay_frames.specs.Putting.{frames_put}
 use Rattle.replay_frames.proofs.TurnLaws.{Turn, progress_start, turn-later, turn-within, turn-asked, turn-fits, turn-few, turn-next, progress_end}
 use Rattle.replay_frames.proofs.put_frames.Goals as goal
-use Rattle.replay_frames.proofs.put_frames.Goals.{Start, After-is_within_ranges, After-next_end-next}
+use Rattle.replay_frames.proofs.put_frames.Goals.{Start, After-next_end-next}
 
 -- the array fields' lengths
 sized : (s : Start) → MeterSized s.args.meter
 sized s = search rules
 
--- the test of the ranges, of both directions' readings
-asked : (c : After-is_within_ranges) →
-    c.is_within_ranges.result ≡ within_ranges c.args.meter c.args.energies.forward c.args.energies.reverse
-asked c = cc (c.is_within_ranges.ensures, c.forward_rows-forward.ensures, c.reverse_rows-reverse.ensures)
-
 -- a turn, up to the end of the frame at the place
 turn : (c : After-next_end-next) → let l = c.loop-at in
-    Turn c.args.frames.now c.args.meter c.forward_rows-forward.result c.reverse_rows-reverse.result c.args.out.now l.out l.present l.at l.used l.lines
+    Turn c.args.frames.now c.args.meter c.args.energies.forward c.args.energies.reverse c.args.out.now l.out l.present l.at l.used l.lines
     c.next_end-next.result
 turn c = record { so_far = c.loop-at.invariant; more = c.loop-at-test.true; ends = c.next_end-next.ensures; enough = omega arith }
 
 pub returns-then-not-is_within_ranges : goal.returns-then-not-is_within_ranges
 unfolding frames_put
 returns-then-not-is_within_ranges c =
-    let test = (goal.at.returns-then-not-is_within_ranges c).After-is_within_ranges in
-    rw (sym (asked test) ∙ c.if-not-is_within_ranges.true, c.refused.ensures)
+    rw (sym c.is_within_ranges.ensures ∙ c.if-not-is_within_ranges.true, c.refused.ensures)
 
 pub returns-then-out-frames : goal.returns-then-out-frames
 unfolding frames_put
 returns-then-out-frames c =
-    let test = (goal.at.returns-then-out-frames c).After-is_within_ranges in
     let short : length c.args.out.now < 35 * length c.args.frames.now = omega arith in
-    rw (sym (asked test) ∙ c.if-not-is_within_ranges.false, lt-leb _ _ short, c.refused-then-out-frames.ensures)
+    rw (sym c.is_within_ranges.ensures ∙ c.if-not-is_within_ranges.false, lt-leb _ _ short, c.refused-then-out-frames.ensures)
 
 pub loop-at-init : goal.loop-at-init
 loop-at-init c = progress_start _ _ _ _ _ (sized (goal.at.loop-at-init c).Start)
@@ -59,14 +52,14 @@ pub returns : goal.returns
 unfolding frames_put
 returns c =
     let enough : 35 * length c.args.frames.now ≤ length c.args.out.now = omega arith in
-    rw (sym (asked (goal.at.returns c).After-is_within_ranges) ∙ c.if-not-is_within_ranges.false, le-leb _ _ enough)
-    (cc (progress_end c.loop-at.invariant c.loop-at-test.false, c.forward_rows-forward.ensures, c.reverse_rows-reverse.ensures))
+    rw (sym c.is_within_ranges.ensures ∙ c.if-not-is_within_ranges.false, le-leb _ _ enough)
+    (progress_end c.loop-at.invariant c.loop-at-test.false)
 
 pub slice_bounds-put_frame-count : goal.slice_bounds-put_frame-count
-slice_bounds-put_frame-count c = omega (arith, turn-later (turn c))
+slice_bounds-put_frame-count c = omega (arith, turn-later (turn (goal.at.slice_bounds-put_frame-count c).After-next_end-next))
 
 pub slice_bounds-put_frame-start : goal.slice_bounds-put_frame-start
-slice_bounds-put_frame-start c = omega (arith, turn-later (turn c))
+slice_bounds-put_frame-start c = omega (arith, turn-later (turn (goal.at.slice_bounds-put_frame-start c).After-next_end-next))
 
 pub slice_bounds-put_frame-end : goal.slice_bounds-put_frame-end
-slice_bounds-put_frame-end c = turn-within (turn c)
+slice_bounds-put_frame-end c = turn-within (turn (goal.at.slice_bounds-put_frame-end c).After-next_end-next)

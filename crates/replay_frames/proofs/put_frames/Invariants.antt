@@ -4,7 +4,7 @@ use Rattle.replay_frames.proofs.TurnLaws.{Progress}
 use Rattle.replay_frames.proofs.put_frames.Given as goal
 
 abbrev pub invariant-loop-at : goal.invariant-loop-at
-invariant-loop-at l = Progress l.frames l.initial.present l.forward l.reverse l.initial.out l.out l.present l.at l.used l.lines
+invariant-loop-at l = Progress l.frames l.initial.present l.energies.forward l.energies.reverse l.initial.out l.out l.present l.at l.used l.lines
 
 abbrev pub decreases-loop-at : goal.decreases-loop-at
 decreases-loop-at l = length l.frames - l.at

@@ -1,5 +1,5 @@
 -- Each arm of the match is a case of `called`: what `verdict_on` says of the verdict is what the law of that case asks.
-use Rattle.std.proofs.Common.{ℕ, ◌≡◌, ◌+◌, ◌≤◌, sym, subst, arith, length, rules}
+use Rattle.std.proofs.Common.{ℕ, ◌≡◌, ◌+◌, ◌≤◌, sym, subst, arith, length, take, length-take-le, rules}
 use Rattle.frame.proofs.RecognitionLaws.{open_most}
 use Rattle.line.specs.Receiver.{kept_bytes}
 use Rattle.line_verdict.specs.Verdict.{verdict_on}
@@ -42,6 +42,11 @@ bounds-self-count c = omega (arith, room (goal.at.bounds-self-count c).In-StillO
 pub overflow_add-self : goal.overflow_add-self
 overflow_add-self c = omega (arith, room (goal.at.overflow_add-self c).In-StillOpen)
 
+pub shared_ref_as_front-join : goal.shared_ref_as_front-join
+shared_ref_as_front-join c =
+    let w = says (goal.at.shared_ref_as_front-join c).Start Whole c.in-Whole.ensures in
+    within-most c.args.self.kept c.args.self.count w.0
+
 pub join-requires : goal.join-requires
 join-requires c =
     let r = c.args.self in
@@ -50,7 +55,8 @@ join-requires c =
     let most : r.count ≤ 211 = within-most r.kept r.count w.0 in
     let size : length r.kept ≡ 211 = kept-size s in
     let roomy : 212 ≤ length c.args.out.now = w.1 in
-    (omega arith, omega arith)
+    let long : length (take r.count r.kept) ≡ r.count = length-take-le _ _ (omega arith) in
+    omega arith
 
 pub overflow_add-answer : goal.overflow_add-answer
 overflow_add-answer c =

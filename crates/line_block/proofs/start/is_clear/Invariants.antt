@@ -1,10 +1,6 @@
 -- The invariant: as long as no 68 was seen, none stands at the places looked at.
-use Rattle.line_block.specs.Skip.{Passes}
-use Rattle.std.proofs.Common.{◌≤◌, ◌+◌, ◌-◌, ◌≡◌, true}
+use Rattle.std.proofs.Common.{ℕ, ◌<◌, ◌≡◌, get_or, true}
 use Rattle.line_block.proofs.start.is_clear.Given as goal
 
-abbrev pub invariant-loop-i : goal.invariant-loop-i
-invariant-loop-i l = (l.i ≤ l.width) × (l.clear ≡ true → Passes l.line l.at (l.at + l.i))
-
-abbrev pub decreases-loop-i : goal.decreases-loop-i
-decreases-loop-i l = l.width - l.i
+abbrev pub invariant-loop-b : goal.invariant-loop-b
+invariant-loop-b l = l.clear ≡ true → (k : ℕ) → k < l.b-index → get_or l.stretch k 0 ≡ 0x68 → ⊥

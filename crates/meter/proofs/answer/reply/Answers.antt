@@ -11,10 +11,10 @@ returns-in_default c =
     let w = (goal.at.returns-in_default c).After-write_frame in
     let s = start_of w in
     let n = reply-length s.args.after _ s.args.payload.now _ s.requires.0 s.requires.1 _ _ w.write_frame.ensures in
-    absurd (c.in_default.not-Length _ n)
+    absurd (c.in_default.not-Ok _ n)
 
 pub returns : goal.returns
 returns c =
     let w = (goal.at.returns c).After-write_frame in
     let s = start_of w in
-    reply-delivered s.args.after _ s.args.payload.now _ s.requires.0 s.requires.1 _ _ w.write_frame.ensures _ _ c.in-Length.is
+    reply-delivered s.args.after _ s.args.payload.now _ s.requires.0 s.requires.1 _ _ w.write_frame.ensures _ _ c.in-Ok.is

@@ -1,15 +1,15 @@
 -- The part of the passwords that was lent comes back with the new password in it.
-use Prim.Native.Nat.{◌+◌, ◌*◌}
+use Prim.Native.Nat.{◌+◌, ◌-◌, ◌*◌}
 use mathlib.Core.Path.{◌≡◌}
 use native.Mathlib.Omega.{arith}
 use lib.ListN.{length}
-use Rattle.laws.specs.PartLaws.{copied-part}
+use Rattle.std.proofs.Common.{drop-drop}
+use Rattle.laws.specs.Part.{with_part}
 use Rattle.meter.proofs.change.with_password.Goals as goal
-use Rattle.meter.proofs.change.with_password.Goals.{Start}
 
 pub returns : goal.returns
+unfolding with_part
 returns c =
-    let at_start = (goal.at.returns c).Start in
-    let a = at_start.args in
-    let three : 3 * a.level + length a.password.now ≡ 3 * a.level + 3 = omega (arith, at_start.requires) in
-    rw (copied-part (3 * a.level) (3 * a.level + 3) a.password.now a.meter.passwords c.copy.new.to three c.copy.ensures.value)
+    let a = c.args in
+    let three : 3 * a.level + 3 - 3 * a.level ≡ length a.password.now = omega (arith, c.requires.1) in
+    rw (c.copy_from_slice.ensures.after, three, drop-drop)

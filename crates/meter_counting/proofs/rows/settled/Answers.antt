@@ -1,11 +1,7 @@
--- The laws of `Shifting` say what a turn and the end make of it.
-use Rattle.std.proofs.Common.{[], ◌∙◌}
-use Rattle.laws.specs.ShiftLaws.{shifting_next, shifting_end}
-use Rattle.meter_counting.proofs.RowsLaws.{settled_fronts}
+-- The first twelve rows come back behind row 0.
+use Rattle.std.proofs.Common.{rules}
+use Rattle.meter_counting.proofs.RowsLaws.{settled_behind}
 use Rattle.meter_counting.proofs.rows.settled.Goals as goal
 
-pub loop-i-preserved : goal.loop-i-preserved
-loop-i-preserved c = shifting_next [] c.loop-i.invariant c.loop-i-test.true
-
 pub returns : goal.returns
-returns c = shifting_end c.loop-i.invariant c.loop-i-test.false ∙ settled_fronts c.args.rows
+returns c = settled_behind c.args.rows c.copy_from_slice.new.self (search rules) c.copy_from_slice.ensures.after

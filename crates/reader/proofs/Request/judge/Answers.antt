@@ -1,14 +1,14 @@
 -- The tests are the checks of the call and of the frame; where they hold the reply is judged by its own parts, and its value has room.
 use Rattle.std.proofs.Common.{◌≡◌, sym, ◌∙◌, ℕ, ◌≤◌, List, length, take, replicate, get_or, true, arith, length-take, length-take-le, le-leb}
+use Rattle.std.specs.Prelude.{Err}
+use Rattle.frame.specs.declared.refusal.Refusal.TheVariants.{NotAnAnswer}
 use Rattle.laws.specs.Test.{pick}
 use Rattle.laws.specs.Checks.{first_failing}
-use Rattle.frame.specs.Refusals.{not_an_answer}
 use Rattle.frame.specs.Frame.{control_of, data_of}
 use Rattle.frame.specs.Recognition.{exactly_one}
 use Rattle.frame_parts.specs.Parts.{address_field}
 use Rattle.frame_parts.specs.PartsLaws.{one-spans, address-field, data_fits, data_front}
 use Rattle.reader_judgement.specs.Judging.{answers, reply_value, data_judgement}
-use Rattle.reader_judgement.specs.declared.Judgement.TheVariants.{Refused}
 use Rattle.reader.specs.Judging.{is_judged, is_answer, call_checks, frame_checks, judgement_of}
 use Rattle.reader.proofs.JudgingLaws.{data_judgement_fits, judged_by}
 use Rattle.reader.specs.declared.Request.{Request}
@@ -21,7 +21,7 @@ decision : (request : Request) (bytes m : List ℕ) → 196 ≤ length m → is_
     let from = address_field bytes in
     judgement_of request bytes m ≡ pick (answers request.action request.address control from)
     (data_judgement request.action request.identifier control from (data_of bytes))
-    (Refused not_an_answer)
+    (Err NotAnAnswer)
 unfolding first_failing judgement_of call_checks frame_checks is_answer control_of
 decision request bytes m room ours one = rw (le-leb 196 (length m) room, ours, one, address-field bytes one)
 
@@ -32,7 +32,7 @@ one c = sym c.is_frame.ensures ∙ c.if-not-is_frame.false
 -- so with what the calls answered
 decided : (c : After-is_answer) → judgement_of c.args.self c.args.bytes.now c.args.out.now ≡ pick c.is_answer.result
     (data_judgement c.args.self.action c.args.self.identifier (get_or c.args.bytes.now 8 0) c.address_of-from.result (data_of c.args.bytes.now))
-    (Refused not_an_answer)
+    (Err NotAnAnswer)
 decided c =
     rw (c.is_answer.ensures, c.address_of-from.ensures)
     (decision c.args.self c.args.bytes.now c.args.out.now c.if-out-lt-VALUE_MEMORY.false (sym c.is_judged.ensures ∙ c.if-not-is_judged.false) (one c))
@@ -50,14 +50,8 @@ returns-then-not-is_answer c = judged_by _ _ _ (sym (rw c.if-not-is_answer.true 
 pub slice_bounds-payload-end : goal.slice_bounds-payload-end
 slice_bounds-payload-end c = fits c
 
-pub slice_bounds-judge_data-end : goal.slice_bounds-judge_data-end
-slice_bounds-judge_data-end c = sym (length-take-le _ _ (fits (goal.at.slice_bounds-judge_data-end c).After-unmask_data-length))
-
-pub slice_bounds-payload-end-2 : goal.slice_bounds-payload-end-2
-slice_bounds-payload-end-2 c = fits (goal.at.slice_bounds-payload-end-2 c).After-unmask_data-length
-
-pub slice_bounds-deliver-end : goal.slice_bounds-deliver-end
-slice_bounds-deliver-end c = sym (length-take-le _ _ (fits (goal.at.slice_bounds-deliver-end c).After-unmask_data-length))
+pub slice_bounds-data_field-end : goal.slice_bounds-data_field-end
+slice_bounds-data_field-end c = sym (length-take-le _ _ (fits (goal.at.slice_bounds-data_field-end c).After-unmask_data-length))
 
 pub deliver-requires : goal.deliver-requires
 deliver-requires c =

@@ -1,11 +1,11 @@
 -- Four stores put the four FE at the front. There is room for the data at their place behind them and for the frame around the data, so it
 -- is written in place and the other way out is not taken.
 use Rattle.std.proofs.Common.{ℕ, ◌+◌, ◌-◌, ◌≤◌, ◌≡◌, List, ◌++◌, length, take, drop, arith, rules}
+use Rattle.std.specs.Prelude.{Ok}
 use Rattle.std.proofs.Math.ListN.{set}
 use Rattle.laws.specs.Memory.{over}
 use Rattle.laws.specs.MemoryLaws.{run-from}
 use Rattle.frame.proofs.FrameLaws.{frame-for-length}
-use Rattle.frame_parts.specs.declared.Written.TheVariants.{Length}
 use Rattle.reader.specs.Building.{wake_up, sent_data}
 use Rattle.reader.proofs.BuildingLaws.{counted-length, data_placed, in_place_length, in_place_over}
 use Rattle.reader.proofs.build.write_request.Goals as goal
@@ -35,25 +35,25 @@ data_there c =
     c.put_data-count.ensures.memory
 
 -- the frame is written in place
-answered : (c : After-write_frame_in_place) → c.write_frame_in_place.result ≡ Length (12 + length (bytes c))
+answered : (c : After-write_frame_in_place) → c.write_frame_in_place.result ≡ Ok (12 + length (bytes c))
 answered c =
     in_place_length (bytes c) c.args.out.now (few c) c.requires.1 c.args.address c.args.control (six c) (with_data c) (data_there c) _
     c.put_data-count.ensures.count _ _ c.write_frame_in_place.ensures
 
 pub returns-in_default : goal.returns-in_default
-returns-in_default c = absurd (c.in_default.not-Length _ (answered (goal.at.returns-in_default c).After-write_frame_in_place))
+returns-in_default c = absurd (c.in_default.not-Ok _ (answered (goal.at.returns-in_default c).After-write_frame_in_place))
 
 pub overflow_add-result : goal.overflow_add-result
 overflow_add-result c =
     let w = (goal.at.overflow_add-result c).After-write_frame_in_place in
-    let given : c.in-Length.n ≡ 12 + length (bytes w) = cc (c.in-Length.is, answered w) in
+    let given : c.in-Ok.n ≡ 12 + length (bytes w) = cc (c.in-Ok.is, answered w) in
     omega (arith, given, few w)
 
 -- and stands behind the four FE
 pub returns : goal.returns
 returns c =
     let w = (goal.at.returns c).After-write_frame_in_place in
-    let given : c.in-Length.n ≡ 12 + length (bytes w) = cc (c.in-Length.is, answered w) in
+    let given : c.in-Ok.n ≡ 12 + length (bytes w) = cc (c.in-Ok.is, answered w) in
     record {
       count = omega (arith, given, frame-for-length w.args.address w.args.control (bytes w) (six w));
       memory =

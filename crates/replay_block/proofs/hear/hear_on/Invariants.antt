@@ -1,16 +1,13 @@
--- The invariant: what has been heard so far; the loop goes on only where nothing was delivered, and where it ends at its beginning, nothing for the
--- receiver stands there. The measure is what is left of the block, and one round while the loop goes on.
-use Rattle.std.proofs.Common.{◌≡◌, true, false, length}
-use Rattle.replay_block.specs.Hear.{NoneStands, is_quiet, HeardOn}
-use Rattle.replay_block.proofs.HearLaws.{rounds_left}
+-- The invariant: what has been heard so far, and that it delivered nothing. The measure is what is left of the block.
+use Rattle.std.proofs.Common.{◌≡◌, ◌-◌, true, length}
+use Rattle.replay_block.specs.Hear.{is_quiet, HeardOn}
 use Rattle.replay_block.proofs.hear.hear_on.Given as goal
 
-abbrev pub invariant-loop-going : goal.invariant-loop-going
-invariant-loop-going l =
+abbrev pub invariant-loop-ends : goal.invariant-loop-ends
+invariant-loop-ends l =
     (length l.frames ≡ length l.initial.frames)
-    × HeardOn l.block l.start l.initial.heard.received.receiver l.frames l.heard
-    × (l.going ≡ true → is_quiet l.heard.received.answer ≡ true)
-    × (l.going ≡ false → l.heard.at ≡ l.start → NoneStands l.block l.start)
+    × HeardOn l.block l.start l.fn.receiver l.frames l.heard
+    × (is_quiet l.heard.received.answer ≡ true)
 
-abbrev pub decreases-loop-going : goal.decreases-loop-going
-decreases-loop-going l = rounds_left l.block l.heard.at l.going
+abbrev pub decreases-loop-ends : goal.decreases-loop-ends
+decreases-loop-ends l = length l.block - l.heard.at

@@ -1,11 +1,10 @@
--- The invariant is `Running`. The measure is what is left of the block, and one turn more while it goes on.
-use Rattle.std.proofs.Common.{◌+◌, ◌-◌, ◌*◌, length}
-use Rattle.laws.specs.Test.{pick}
-use Rattle.replay_block.proofs.RunLaws.{Running}
+-- The invariant: how far the records are played. The measure is what is left of the block.
+use Rattle.std.proofs.Common.{◌-◌, length}
+use Rattle.replay_block.specs.Run.{run_at, Goes}
 use Rattle.replay_block.proofs.run.run_on.Given as goal
 
-abbrev pub invariant-loop-going : goal.invariant-loop-going
-invariant-loop-going l = Running l.block l.initial.run l.run l.initial.out l.out l.going
+abbrev pub invariant-loop-run : goal.invariant-loop-run
+invariant-loop-run l = Goes l.block (run_at l.fn.session) l.run l.initial.out l.out
 
-abbrev pub decreases-loop-going : goal.decreases-loop-going
-decreases-loop-going l = 2 * (length l.block - l.run.at) + pick l.going 1 0
+abbrev pub decreases-loop-run : goal.decreases-loop-run
+decreases-loop-run l = length l.block - l.run.at

@@ -1,7 +1,0 @@
--- The invariant: there is always room behind the bytes kept.
-use Rattle.std.proofs.Common.{◌≡◌, ◌≤◌, length}
-use Rattle.line_verdict.specs.Verdict.{most_kept}
-use Rattle.list_frames.proofs.input.list_all.Given as goal
-
-abbrev pub invariant-loop-turn : goal.invariant-loop-turn
-invariant-loop-turn g l = (l.kept ≤ most_kept) × (length l.buffer ≡ length l.initial.buffer)

@@ -1,6 +1,0 @@
--- The measure is the number of bytes that are left.
-use Rattle.std.proofs.Common.{◌-◌, length}
-use Rattle.run_text.proofs.memory.is_filled.Given as goal
-
-abbrev pub decreases-loop-i : goal.decreases-loop-i
-decreases-loop-i l = length l.memory - l.i
