@@ -13,7 +13,17 @@ use Rattle.item_identifier.specs.Identifier.{identifier_of}
 use Rattle.item_command.specs.declared.Command.{Command}
 use Rattle.meter_decision.specs.Request.{level_of, new_level_of}
 use Rattle.meter_decision.specs.Decision.{names_password, checks_of, failing, accepted, decided}
-use Rattle.meter_decision.specs.Checks.{read_request, write_request, password_request}
+use Rattle.meter_decision.specs.Checks.{check_of, read_request, write_request, password_request}
+use Rattle.meter_decision.specs.declared.request.Tested.TheVariants.{Holds, Fails}
+
+-- What a check of the code says of its test.
+pub check_true : (t : Bool) → check_of t ≡ Holds → t ≡ true
+check_true true h = refl
+check_true false h = cc
+
+pub check_false : (t : Bool) → check_of t ≡ Fails → t ≡ false
+check_false true h = cc
+check_false false h = refl
 
 -- The first `k` checks of a command hold.
 abbrev pub Passed : Command → List ℕ → Bool → List ℕ → ℕ → Type 0

@@ -1,11 +1,18 @@
--- What the data of each command are parsed as, by what document 01's checks say.
-use Rattle.std.specs.Prelude.{ℕ, List, length, eqb, Option, Some, None}
+-- What each check of the code yields, by what document 01's checks say.
+use Rattle.std.specs.Prelude.{ℕ, List, Bool, true, false, length, eqb, Option, Some, None}
 use Rattle.laws.specs.Test.{pick}
 use Rattle.item_range.specs.Range.{within}
 use Rattle.meter_decision.specs.Request.{level_of, new_level_of}
 use Rattle.item_identifier.specs.Identifier.{identifier_of}
+use Rattle.meter_decision.specs.declared.request.Tested.{Tested}
+use Rattle.meter_decision.specs.declared.request.Tested.TheVariants.{Holds, Fails}
 use Rattle.meter_decision.specs.declared.request.WriteRequest.{WriteRequest}
 use Rattle.meter_decision.specs.declared.request.PasswordRequest.{PasswordRequest}
+
+-- A check that parses nothing.
+abbrev pub check_of : Bool → Tested
+check_of true = Holds
+check_of false = Fails
 
 -- The data of 11, of 14 and of 18, where their length is right.
 unfoldable pub read_request : List ℕ → Option ℕ

@@ -5,7 +5,7 @@ ghost use Rattle.meter_decision.specs.Decision.{decided};
 use crate::Decision;
 use crate::authority::{authority, names_password};
 use crate::request::{
-    PasswordRequest, WriteRequest, password_request, read_request, write_request,
+    PasswordRequest, Tested, WriteRequest, check_of, password_request, read_request, write_request,
 };
 use frame::refusal::Refusal;
 use item::content::content_of;
@@ -34,9 +34,9 @@ pub(crate) fn read_data(payload: &[u8]) -> Decision
 pub(crate) fn read_address(payload: &[u8]) -> Decision
     ensures { result ≡ decided Command.ReadAddress payload.now false [] }
 {
-    if payload.len() != 0 {
+    let Tested::Holds = check_of(payload.len() == 0) else {
         return Decision::Silent(Refusal::SilentByRule);
-    }
+    };
     Decision::OwnAddress
 }
 
@@ -51,19 +51,19 @@ pub(crate) fn write_data(payload: &[u8], key: bool, passwords: [u8; 30]) -> Deci
     let Some(item) = item_of(request.identifier) else {
         return Decision::Error(NO_SUCH_DATA);
     };
-    if !item.writable {
+    let Tested::Holds = check_of(item.writable) else {
         return Decision::Error(NOT_AUTHORISED);
-    }
-    if !key {
+    };
+    let Tested::Holds = check_of(key) else {
         return Decision::Error(NOT_AUTHORISED);
-    }
-    if !authority(passwords, 4, request.level, &payload[5..8]) {
+    };
+    let Tested::Holds = authority(passwords, 4, request.level, &payload[5..8]) else {
         return Decision::Error(NOT_AUTHORISED);
-    }
+    };
     let value = &payload[12..];
-    if value.len() != item.length {
+    let Tested::Holds = check_of(value.len() == item.length) else {
         return Decision::Error(OTHER_ERROR);
-    }
+    };
     let Ok(()) = content_of(item, value) else {
         return Decision::Error(OTHER_ERROR);
     };
@@ -75,17 +75,17 @@ pub(crate) fn write_data(payload: &[u8], key: bool, passwords: [u8; 30]) -> Deci
 pub(crate) fn write_address(payload: &[u8], key: bool) -> Decision
     ensures { result ≡ decided Command.WriteAddress payload.now key [] }
 {
-    if payload.len() != 6 {
+    let Tested::Holds = check_of(payload.len() == 6) else {
         return Decision::Silent(Refusal::SilentByRule);
-    }
-    if !key {
+    };
+    let Tested::Holds = check_of(key) else {
         return Decision::Silent(Refusal::SilentByRule);
-    }
+    };
     let mut address = [0u8; 6];
     slice_bytes::copy(payload, &mut address);
-    if !is_good(address) {
+    let Tested::Holds = check_of(is_good(address)) else {
         return Decision::Silent(Refusal::SilentByRule);
-    }
+    };
     Decision::NewAddress
 }
 
@@ -97,17 +97,17 @@ pub(crate) fn change_password(payload: &[u8], key: bool, passwords: [u8; 30]) ->
     let Some(request) = password_request(payload) else {
         return Decision::Error(OTHER_ERROR);
     };
-    if !names_password(request.identifier, request.new) {
+    let Tested::Holds = names_password(request.identifier, request.new) else {
         return Decision::Error(NO_SUCH_DATA);
-    }
-    if !key {
+    };
+    let Tested::Holds = check_of(key) else {
         return Decision::Error(NOT_AUTHORISED);
-    }
-    if !authority(passwords, request.new, request.old, &payload[5..8]) {
+    };
+    let Tested::Holds = authority(passwords, request.new, request.old, &payload[5..8]) else {
         return Decision::Error(NOT_AUTHORISED);
-    }
-    if !all_decimal(&payload[9..12]) {
+    };
+    let Tested::Holds = check_of(all_decimal(&payload[9..12])) else {
         return Decision::Error(OTHER_ERROR);
-    }
+    };
     Decision::NewPassword(request.new)
 }

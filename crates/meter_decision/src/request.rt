@@ -1,10 +1,17 @@
 // The data of a command: the checks of their length, which parse what the later checks look at.
 ghost use Rattle.std.specs.Prelude.{◌≡◌, ◌≤◌, length};
 ghost use Rattle.item_identifier.specs.Identifier.{identifier_of};
-ghost use Rattle.meter_decision.specs.Checks.{read_request, write_request, password_request};
+ghost use Rattle.meter_decision.specs.Checks.{check_of, read_request, write_request, password_request};
 
 use item_identifier::identifier_of;
 use item_range::is_within;
+
+// A check that parses nothing. Document 01 names the form: each check yields an enum, which `let .. else` takes apart.
+#[derive(Clone, Copy)]
+pub(crate) enum Tested {
+    Holds,
+    Fails,
+}
 
 // The data of 14 before the value.
 #[derive(Clone, Copy)]
@@ -19,6 +26,16 @@ pub(crate) struct PasswordRequest {
     pub identifier: u32,
     pub old: u8,
     pub new: u8,
+}
+
+// The check of a test.
+pub(crate) fn check_of(test: bool) -> Tested
+    ensures { result ≡ check_of test }
+{
+    if test {
+        return Tested::Holds;
+    }
+    Tested::Fails
 }
 
 // The data identifier at the front of the data.

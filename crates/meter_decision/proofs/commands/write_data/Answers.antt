@@ -3,7 +3,6 @@ use Rattle.std.proofs.Common.{◌≡◌, ℕ, ◌-◌, Bool, true, false, List, 
 use Rattle.std.specs.Prelude.{Err, Ok, Result, Some}
 use Rattle.item.specs.declared.content.ContentError.{ContentError}
 use Rattle.item.specs.declared.content.ContentError.TheVariants.{NotDecimal, NotWritable, OutOfRange, WrongLength}
-use borrow.Author.Tests.{eq-eqb, not-false}
 use borrow.Rule.Slice.PartAt.{part_to_end}
 use Rattle.laws.specs.Checks.{first_failing}
 use Rattle.item_command.specs.declared.Command.TheVariants.{WriteData}
@@ -13,7 +12,7 @@ use Rattle.item.specs.Table.{item_of}
 use Rattle.item.specs.declared.table.Item.{Item}
 use Rattle.meter_decision.specs.Request.{item_asked, level_of, password_of, written_value}
 use Rattle.meter_decision.specs.Decision.{authorised, checks_of, decided}
-use Rattle.meter_decision.proofs.ChecksLaws.{write_parsed}
+use Rattle.meter_decision.proofs.ChecksLaws.{check_true, write_parsed}
 use Rattle.meter_decision.specs.declared.Decision.TheVariants.{Error}
 use Rattle.meter_decision.proofs.commands.write_data.Goals as goal
 
@@ -49,8 +48,8 @@ returns-in_default-content_of c =
     let parsed = write_parsed payload (sym c.in-Some.ensures) in
     let value : take (length payload - 12) (drop 12 payload) ≡ drop 12 payload = part_to_end payload 12 in
     content_fails payload _ _ item parsed.0 (ap item_of parsed.2 ∙ sym c.in-Some-item_of.ensures)
-    (not-false _ c.if-not-item.false)
-    c.if-not-key.false
-    (rw parsed.3 (sym c.authority.ensures ∙ c.if-not-authority.false))
-    (rw (← value) (eq-eqb _ _ c.if-value-item.false))
+    (check_true _ (sym c.in-Holds.ensures))
+    (check_true _ (sym c.in-Holds-check_of.ensures))
+    (rw parsed.3 (check_true _ (sym c.in-Holds-authority.ensures)))
+    (rw (← value) (check_true _ (sym c.in-Holds-check_of-2.ensures)))
     (rw (← value) (ap content_is_allowed (sym c.content_of.ensures) ∙ not_allowed _ (c.in_default-content_of.not-Ok tt)))
