@@ -1,5 +1,5 @@
 // One input, listed up to its end: bytes are read and text is written in blocks.
-ghost use Rattle.std.specs.Prelude.{◌≤◌, IfOk};
+ghost use Rattle.std.specs.Prelude.{◌+◌, ◌≤◌, ◌<◌, length, IfOk};
 ghost use Rattle.line_verdict.specs.Verdict.{most_kept};
 
 use listing::step::list_step;
@@ -20,6 +20,14 @@ pub(crate) struct Memory {
     pub(crate) buffer: [u8; 65536],
     pub(crate) frames: [u8; 65536],
     pub(crate) text: [u8; 131072],
+}
+
+// Reads behind the bytes kept, where there is always room, and returns how many bytes were read.
+fn read_behind<R: Read>(from: &mut R, kept: usize, buffer: &mut [u8]) -> io::Result<usize>
+    requires { (kept ≤ most_kept) × (most_kept < length buffer.old) }
+    ensures { IfOk result (λ read. kept + read ≤ length buffer.new) }
+{
+    program_input::read_some(from, &mut buffer[kept..])
 }
 
 // Lists what stands at the front of the buffer, so many bytes kept and so many read, and writes their lines; returns how many bytes of
@@ -46,15 +54,12 @@ fn list_read(
 }
 
 impl Memory {
-    // Lists the frames of the whole input: reads behind the bytes kept, where there is always room, up to a read of no bytes, its
-    // end. A proved loop has to end, and nothing says that the input does: so the loop counts its turns, up to a number that no run
-    // uses up.
+    // Lists the frames of the whole input, up to a read of no bytes, its end. A proved loop has to end, and nothing says that the
+    // input does: so the loop counts its turns, up to a number that no run uses up.
     pub(crate) fn list_all<R: Read>(&mut self, from: &mut R, to: Stdout) -> Result<(), Failed> {
         let mut kept = 0;
         for _turn in 0..u64::MAX {
-            let read = program_input::read_some(from, &mut self.buffer[kept..]).map_err(
-                Failed::Unread,
-            )?;
+            let read = read_behind(from, kept, &mut self.buffer).map_err(Failed::Unread)?;
             kept = list_read(
                 to,
                 kept,
