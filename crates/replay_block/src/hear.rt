@@ -44,20 +44,25 @@ fn unheard(receiver: Receiver) -> Received
 }
 
 // Hears the byte records from a place of the block on, up to the first that delivers something or to the first record that is no byte. The loop carries
-// what a call returned, receiver and answer together, so that a byte that nobody keeps costs one copy of the receiver. Its condition is only that a byte
-// stands there: with both tests in it such a byte costs 8 instructions more.
+// what a call returned, receiver and answer together, and is left where no byte stands: so a byte that nobody keeps costs one copy of the receiver.
 fn hear_bytes(block: &[u8], start: usize, receiver: Receiver, frames: &mut [u8]) -> Heard
     requires { CanHear block.now start receiver frames.old }
     ensures { HeardOn block.now start receiver frames.new result × (is_quiet result.received.answer ≡ true → stands_at block.now result.at 1 2 ≡ false) }
 {
     let mut received = unheard(receiver);
     let mut at = start;
-    while stands_at(block, at, 1, 2) {
+    let mut going = true;
+    while going {
+        if !stands_at(block, at, 1, 2) {
+            return Heard {
+                received,
+                at,
+                records: (at - start) / 2,
+            };
+        }
         received = received.receiver.byte(block[at + 1], frames);
         at += 2;
-        if !is_quiet(received.answer) {
-            break;
-        }
+        going = is_quiet(received.answer);
     }
     Heard {
         received,
