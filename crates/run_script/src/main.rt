@@ -29,22 +29,22 @@ use run_text::script::run_script;
 use state::State;
 
 // Carries out a call with bytes behind its word, if it is one.
-fn run_bytes(state: State, word: &[u8], bytes: &[u8]) -> Option<State> {
-    let next = match word {
+fn run_bytes(state: &mut State, word: &[u8], bytes: &[u8]) -> Option<()> {
+    *state = match word {
         b"meter" => state.meter(six_of(bytes)?),
         b"address" => state.address(six_of(bytes)?),
         b"frame" => state.frame(bytes),
         b"judge" => state.judge(bytes),
         b"tell" => state.tell(bytes),
-        b"request" => return state.request(bytes),
+        b"request" => state.request(bytes)?,
         _ => return None,
     };
-    Some(next)
+    Some(())
 }
 
 // Carries out a call with numbers behind its word, if it is one.
-fn run_numbers(state: State, word: &[u8], text: &[u8]) -> Option<State> {
-    let next = match word {
+fn run_numbers(state: &mut State, word: &[u8], text: &[u8]) -> Option<()> {
+    *state = match word {
         b"memory" => {
             let [room] = read_exactly::<1>(text, 256)?;
             state.memory(room)
@@ -62,31 +62,29 @@ fn run_numbers(state: State, word: &[u8], text: &[u8]) -> Option<State> {
         b"reading" => state.reading(read_exactly(text, u32::MAX)?),
         _ => return None,
     };
-    Some(next)
+    Some(())
 }
 
 // Carries out a call that is a word alone, if it is one.
-fn run_word(state: State, line: &[u8]) -> Option<State> {
-    match line {
-        b"settle" => Some(state.settle()),
-        b"show" => Some(state.show()),
-        b"build" => Some(state.build()),
-        b"exchange" => Some(state.exchange()),
-        _ => None,
-    }
+fn run_word(state: &mut State, line: &[u8]) -> Option<()> {
+    *state = match line {
+        b"settle" => state.settle(),
+        b"show" => state.show(),
+        b"build" => state.build(),
+        b"exchange" => state.exchange(),
+        _ => return None,
+    };
+    Some(())
 }
 
 // Carries out the call of a line, if it is one. A call has at most 256 bytes.
-fn run_line(state: State, line: &[u8]) -> Option<State> {
+fn run_line(mut state: State, line: &[u8]) -> Option<State> {
     let (word, text) = split_word(line);
-    if let Some(next) = run_word(state, line) {
-        return Some(next);
+    if run_word(&mut state, line).is_none() && run_numbers(&mut state, word, text).is_none() {
+        let mut buffer = [0u8; 256];
+        run_bytes(&mut state, word, bytes_of(text, &mut buffer)?)?;
     }
-    if let Some(next) = run_numbers(state, word, text) {
-        return Some(next);
-    }
-    let mut buffer = [0u8; 256];
-    run_bytes(state, word, bytes_of(text, &mut buffer)?)
+    Some(state)
 }
 
 // Carries out the script that the input is.

@@ -13,27 +13,6 @@ pub fn each_line<F: FnMut(&[u8])>(text: &[u8], mut step: F)
     }
 }
 
-// The state after a line of a script.
-fn run_line<S: Copy, F: FnMut(S, &[u8]) -> Option<S>>(
-    to: Stdout,
-    state: S,
-    line: &[u8],
-    call: &mut F,
-) -> S
-    requires { (f : F) (s : S) (x : _) → F.pre f s x }
-{
-    if is_comment(line) {
-        write_line(to, line);
-        return state;
-    }
-    let Some(next) = call(state, line) else {
-        write(to, b"not a call: ");
-        write_line(to, line);
-        return state;
-    };
-    next
-}
-
 // Carries out the script that the whole input is, of at most 100,000 bytes: each line is a call, which gives the next state, or is
 // none, or it is a comment, which is copied.
 pub fn run_script<S: Copy, F: FnMut(S, &[u8]) -> Option<S>>(
@@ -55,7 +34,14 @@ pub fn run_script<S: Copy, F: FnMut(S, &[u8]) -> Option<S>>(
         |line|
             requires { (f : F) (s : S) (x : _) → F.pre f s x }
         {
-            state = run_line(to, state, line, &mut call);
+            if is_comment(line) {
+                write_line(to, line);
+            } else if let Some(next) = call(state, line) {
+                state = next;
+            } else {
+                write(to, b"not a call: ");
+                write_line(to, line);
+            }
         },
     );
 }

@@ -1,6 +1,6 @@
 // Text, bytes and frames, written to standard output. What cannot be written is let go.
 use std::fmt::{self, Display, Formatter};
-use std::io::{Stdout, Write};
+use std::io::{self, Stdout, Write};
 
 // Writes a format's text as a line, as `println!` does.
 #[macro_export]
@@ -10,9 +10,9 @@ macro_rules! say {
     }};
 }
 
-// Writes what a value is as text.
-pub fn write_text<D: Display + Drop>(mut to: Stdout, text: D) {
-    let _ = write!(to, "{text}");
+// Writes what a value is as text, in one write where it has at most 1,024 bytes: `write!` makes one of each piece of a format.
+pub fn write_text<D: Display + Drop>(to: Stdout, text: D) {
+    let _ = io::Print::print(&to, text);
 }
 
 // Writes text as it stands, which need not be UTF-8.
