@@ -33,11 +33,16 @@ pub fn first_bad(bytes: &[u8]) -> Option<usize>
     bytes.iter().position(|b| !is_decimal(*b))
 }
 
-// Whether every half byte is 0 to 9: one pass with no way out before the end, which the compiler turns into vector instructions.
+// Whether every half byte is 0 to 9: one pass with a flag and no way out before the end, which the compiler turns into vector
+// instructions.
 pub fn all_decimal(bytes: &[u8]) -> bool
     ensures { result ≡ all_decimal bytes.now }
 {
-    bytes.iter().fold(true, |all, b| all & is_decimal(*b))
+    let mut all = true;
+    for b in bytes {
+        all = all & is_decimal(*b);
+    }
+    all
 }
 
 // The number of a byte's two digits.
