@@ -1,6 +1,7 @@
 -- Laws of the checksum: of bytes joined, of one byte more, and of bytes passed in fours.
-use Rattle.std.specs.Prelude.{◌≡◌, ℕ, ◌+◌, ◌-◌, ◌%◌, ◌<◌, List, [], ◌∷◌, ◌++◌, length, take, drop, slice_index, refl}
-use Rattle.std.proofs.Common.{sym, ◌∙◌, add-one, append_assoc, arith, drop_at, length-append, take-suc}
+use Rattle.std.specs.Prelude.{◌≡◌, ℕ, ◌+◌, ◌%◌, ◌<◌, List, [], ◌∷◌, ◌++◌, length, take, drop, slice_index, refl}
+use Rattle.std.proofs.Common.{ap, sym, ◌∙◌, add-one, append_assoc, arith, get_or, length-append, length-drop, take_all, take-suc}
+use Rattle.std.proofs.lemmas.List.{append-nil, length-take-le, nil_from_length, take-append-drop}
 use Rattle.frame.specs.Frame.{total, checksum_of}
 
 -- The sum of two lists, one behind the other, is the sum of their sums.
@@ -30,25 +31,36 @@ pub fours_start : (bytes : List ℕ) → Fours bytes 4 bytes 0
 unfolding total checksum_of
 fours_start bytes = record { passed = []; four = refl; whole = refl; parts = refl; so_far = refl }
 
--- One four more.
-pub fours_next : {bytes rest left : List ℕ} (four : List ℕ) {size size' sum next : ℕ} → Fours bytes size rest sum → size' ≡ size → rest ≡ four ++ left
-    → length four ≡ size → next ≡ (sum + total four) % 256 → Fours bytes size' left next
+-- Four bytes, each read by its place, have their sum.
+pub four_read : (four : List ℕ) → length four ≡ 4 → total (get_or four 0 0 ∷ get_or four 1 0 ∷ get_or four 2 0 ∷ get_or four 3 0 ∷ []) ≡ total four
+four_read (a ∷ b ∷ c ∷ d ∷ []) _ = refl
+four_read [] n = absurd (omega (arith, n))
+four_read (a ∷ []) n = absurd (omega (arith, n))
+four_read (a ∷ b ∷ []) n = absurd (omega (arith, n))
+four_read (a ∷ b ∷ c ∷ []) n = absurd (omega (arith, n))
+four_read (a ∷ b ∷ c ∷ d ∷ e ∷ more) n = absurd (omega (arith, n))
+
+-- One four more, of which the sum is gone on with.
+pub fours_next : {bytes rest left : List ℕ} (four : List ℕ) {size size' sum added next : ℕ} → Fours bytes size rest sum → size' ≡ size → rest ≡ four ++ left
+    → length four ≡ size → next ≡ (sum + added) % 256 → added ≡ total four → Fours bytes size' left next
 unfolding checksum_of
-fours_next {bytes} {rest} {left} four {size} {size'} {sum} {next} f same e n h =
+fours_next {bytes} {rest} {left} four {size} {size'} {sum} {added} {next} f same e n h all =
     record {
       passed = f.passed ++ four;
       four = same ∙ f.four;
       whole = rw length-append (omega (arith, f.whole, n, f.four));
       parts = f.parts ∙ rw e (sym (append_assoc f.passed four left));
-      so_far = h ∙ rw (f.so_far, total-append) (omega arith);
+      so_far = h ∙ rw (f.so_far, total-append, all) (omega arith);
     }
 
--- The odd ones behind the fours make it whole.
-pub fours_end : {bytes rest odd : List ℕ} {size sum r : ℕ} → Fours bytes size rest sum → length rest < size → odd ≡ drop (length bytes - length bytes % 4) bytes
-    → r ≡ (sum + total odd) % 256 → r ≡ checksum_of bytes
-unfolding checksum_of
-fours_end {bytes} {rest} {odd} {size} {sum} {r} f few o h =
-    let long : length bytes ≡ length f.passed + length rest = rw (f.parts, length-append) in
-    let place : length bytes - length bytes % 4 ≡ length f.passed = omega (arith, f.whole, f.four) in
-    let left : odd ≡ rest = o ∙ rw (place, f.parts) (drop_at f.passed rest (length f.passed) refl) in
-    h ∙ rw (left, f.so_far, f.parts, total-append) (omega arith)
+-- The turns took the first `m` bytes, whole fours, so none of these is left, and the odd ones behind them make it whole.
+pub fours_end : (bytes : List ℕ) (m i k : ℕ) {rest : List ℕ} {size sum r : ℕ} → Fours (take m bytes) size rest sum → length rest < size → r ≡ (sum + total (take k (drop i bytes))) % 256
+    → m % 4 ≡ 0 → i ≡ m → i + k ≡ length bytes → r ≡ checksum_of bytes
+unfolding total checksum_of
+fours_end bytes m i k {rest} {size} {sum} {r} f few h whole from all =
+    let long : length f.passed + length rest ≡ m = sym (length-append f.passed rest) ∙ ap length (sym f.parts) ∙ length-take-le m bytes (omega arith) in
+    let none : rest ≡ [] = nil_from_length rest (omega (arith, f.whole, f.four)) in
+    let turns : f.passed ≡ take m bytes = sym (f.parts ∙ rw none (append-nil f.passed)) in
+    let odd : take k (drop i bytes) ≡ drop m bytes = rw from (take_all k (drop m bytes) (rw length-drop (omega arith))) in
+    let parts : total bytes ≡ total (take m bytes) + total (drop m bytes) = ap total (sym (take-append-drop m bytes)) ∙ total-append (take m bytes) (drop m bytes) in
+    h ∙ rw (odd, f.so_far, turns, parts) (omega arith)

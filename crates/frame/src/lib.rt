@@ -5,7 +5,7 @@
 pub mod delivery;
 pub mod refusal;
 
-ghost use Rattle.std.specs.Prelude.{◌≡◌, ◌+◌, ◌%◌};
+ghost use Rattle.std.specs.Prelude.{◌≡◌, ◌+◌, ◌%◌, ◌<◌, length};
 ghost use Rattle.frame.specs.Frame.{total, checksum_of};
 ghost use Rattle.frame.specs.Recognition.{recognised, recognised_body, exactly_one};
 
@@ -30,17 +30,33 @@ fn gone_on(sum: u8, bytes: &[u8]) -> u8
     bytes.iter().fold(sum, |sum, b| sum.wrapping_add(*b))
 }
 
+// A sum gone on with at most three bytes, wrapping at 256.
+#[tactic(auto, unfolding(crate::specs::Frame::total))]
+fn with_odd(sum: u8, odd: &[u8]) -> u8
+    requires { length odd.now < 4 }
+    ensures { result ≡ (sum + total odd.now) % 256 }
+{
+    match odd {
+        [] => sum,
+        [first] => sum.wrapping_add(*first),
+        [first, second] => sum.wrapping_add(*first).wrapping_add(*second),
+        [first, second, third, ..] => sum
+            .wrapping_add(*first)
+            .wrapping_add(*second)
+            .wrapping_add(*third),
+    }
+}
+
 // The sum of the bytes, wrapping at 256: four bytes a turn, as document 02, W2, asks, then the odd ones, at most three.
 pub fn checksum(bytes: &[u8]) -> u8
     ensures { result ≡ checksum_of bytes.now }
 {
-    let fours = bytes.chunks_exact(4);
-    let odd = fours.remainder();
+    let in_fours = bytes.len() / 4 * 4;
     let mut sum = 0;
-    for four in fours {
+    for four in bytes[..in_fours].chunks_exact(4) {
         sum = gone_on(sum, four);
     }
-    gone_on(sum, odd)
+    with_odd(sum, &bytes[in_fours..])
 }
 
 // What the bytes begin with, given up at the first byte that no frame has there. Where a last byte is there it is looked

@@ -1,9 +1,9 @@
 -- Laws of a frame taken apart.
-use Rattle.std.specs.Prelude.{◌≡◌, ℕ, ◌+◌, ◌≤◌, true, false, List, [], ◌∷◌, length, take, drop, slice_index}
+use Rattle.std.specs.Prelude.{◌≡◌, ℕ, ◌+◌, ◌<◌, ◌≤◌, true, false, List, [], ◌∷◌, length, take, drop, slice_index}
 use Rattle.std.proofs.Common.{ap, sym, ◌∙◌, arith, length-append, take_at}
 use Rattle.std.proofs.Math.ListN.{length-drop, length-map}
 use Rattle.std.proofs.Math.Seq.{drop-cons, length-take-le}
-use borrow.Author.Tests.{le-leb}
+use borrow.Author.Tests.{le-leb, lt-leb}
 use Rattle.laws.specs.Memory.{Outcome, outcome, over}
 use Rattle.frame.specs.Frame.{address_of, length_of, field_of, data_of}
 use Rattle.frame_parts.specs.Parts.{address_field, has_data, data_unmasked}
@@ -29,6 +29,14 @@ module _ (bytes : List ℕ) (seven : 7 ≤ length bytes) where
         drop-cons bytes 5 0 (omega arith),
         drop-cons bytes 6 0 (omega arith),
       )
+
+-- Bytes that are too few for an address field: zeros.
+pub address_none : (bytes : List ℕ) → length bytes < 7 → address_field bytes ≡ 0 ∷ 0 ∷ 0 ∷ 0 ∷ 0 ∷ 0 ∷ []
+unfolding address_field
+address_none bytes few = rw (lt-leb 7 (length bytes) few)
+
+-- The address field as it is read, byte by byte.
+pub ruleset address_read = (address-bytes, address_none)
 
 -- Bytes that have as many data as they say: their field is as long as they say, and where that is at most 200 the data are taken.
 module _ (bytes : List ℕ) (there : 10 + length_of bytes ≤ length bytes) where

@@ -37,14 +37,14 @@ pub fn unmask(b: u8) -> u8
 }
 
 // The address field of a frame; zeros where the bytes are too few to have one.
+#[tactic(auto, using(crate::specs::PartsLaws::address_read))]
 pub fn address_of(bytes: &[u8]) -> [u8; 6]
     ensures { result ≡ address_field bytes.now }
 {
-    let mut address = [0u8; 6];
-    if let Some(field) = bytes.get(1..7) {
-        address.copy_from_slice(field);
+    match bytes {
+        [_, a, b, c, d, e, f, ..] => [*a, *b, *c, *d, *e, *f],
+        _ => [0u8; 6],
     }
-    address
 }
 
 // The bytes of a data field, each through a function, at the front of the memory.
