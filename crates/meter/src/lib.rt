@@ -1,6 +1,6 @@
 // A meter of DL/T 645-2007: document 01, "What the meter holds" and "How the meter treats a frame". Every operation takes the
-// meter by value and both directions' readings lent, or by value where it counts in them, refuses with 16 what is outside document 01's
-// ranges before anything else, and hands the meter back, with the readings where it counts in them.
+// meter and both directions' readings by value, refuses with 16 what is outside document 01's ranges before anything else, and
+// hands the meter back, with the readings where it counts in them.
 #![tactic(auto)]
 
 mod answer;

@@ -27,7 +27,7 @@ pulsed-set [] amount rate = refl
 pulsed-set (row ∷ rows) amount rate = refl
 
 -- A settlement has row 0 before the first twelve of thirteen rows.
-settled_fronts : (rows : Rows) → take 1 rows ++ take 12 rows ≡ settled rows
+pub settled_fronts : (rows : Rows) → take 1 rows ++ take 12 rows ≡ settled rows
 unfolding settled
 settled_fronts [] = refl
 settled_fronts (row ∷ rows) = refl
