@@ -47,7 +47,9 @@ fn with_odd(sum: u8, odd: &[u8]) -> u8
     }
 }
 
-// The sum of the bytes, wrapping at 256: four bytes a turn, as document 02, W2, asks, then the odd ones, at most three.
+// The sum of the bytes, wrapping at 256: four bytes a turn, as document 02, W2, asks, then the odd ones, at most three. A function by
+// itself also when compiled: most places are given up before their checksum is summed, and those tests take less without it.
+#[inline(never)]
 pub fn checksum(bytes: &[u8]) -> u8
     ensures { result ≡ checksum_of bytes.now }
 {
