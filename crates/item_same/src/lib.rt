@@ -4,8 +4,8 @@
 ghost use Rattle.std.specs.Prelude.{◌≡◌};
 ghost use Rattle.item_same.specs.Same.{same};
 
-// Whether two slices hold the same bytes. Place by place, where `a == b` would say as much: a must-fail edit changes one operand here, and
-// of one that means the same the proof stands.
+// Whether two slices hold the same bytes. Place by place, where `a == b` would say as much: must-fail edits change a length and the first
+// place, and a harmless change of either is proved.
 #[tactic(auto, using(crate::specs::SameLaws::lengths_differ))]
 pub fn same_bytes(a: &[u8], b: &[u8]) -> bool
     ensures { result ≡ same a.now b.now }
