@@ -1,4 +1,5 @@
 pub mod Blocks
 pub mod ChainLaws
+pub mod MoveLaws
 pub mod Said
 pub mod StepLaws

@@ -1,8 +1,6 @@
 -- What each way out of a step comes to: a buffer that is too short, a reading that is refused, and a reading whose rest is moved to the front;
 -- and what an answer says of the step.
-use Rattle.std.specs.Prelude.{ℕ, ◌+◌, ◌-◌, ◌≤◌, ◌<◌, ◌≡◌, ◌⊎◌, Bool, take, drop, leb, ◌++◌, Err, Result}
-use Rattle.std.specs.List.{copy_within}
-use Rattle.std.proofs.lemmas.List.{drop-take}
+use Rattle.std.specs.Prelude.{ℕ, ◌+◌, ◌-◌, ◌≤◌, ◌<◌, ◌≡◌, ◌⊎◌, Bool, take, leb, Err, Result}
 use Rattle.frame.specs.declared.refusal.Refusal.{Refusal}
 use Rattle.frame.specs.declared.refusal.Refusal.TheVariants.{ShortMemory}
 use Rattle.line_block.specs.Answer.{block_gives}
@@ -13,6 +11,7 @@ use Rattle.std.proofs.Math.Path.{ap, sym}
 use mathlib.Core.List.{List}
 use Rattle.std.proofs.Math.ListN.{length}
 use borrow.Author.Tests.{le-leb, lt-leb, leb-true, leb-false}
+use Rattle.slice_bytes.specs.Place.{slice}
 use Rattle.laws.specs.Memory.{outcome, over}
 use Rattle.laws.specs.TestLaws.{pick_cases}
 use Rattle.line_terms.specs.Places.{joined}
@@ -54,22 +53,21 @@ module _ (kept read : ℕ) (ended : Bool) (buffer m : List ℕ) where
       step-rest = omega (arith, has_read.place, size)
 
       -- What is moved is what the reading keeps, and as many bytes.
-      moved : take (kept + read - rest) (drop rest buffer) ≡ kept_bytes
-      moved =
-          let whole : rest + (kept + read - rest) ≡ kept + read = omega (arith, step-rest) in
-          sym (drop-take rest (kept + read - rest) buffer)
-          ∙ ap (λ (n : ℕ). drop rest (take n buffer)) whole
-          ∙ rw has_read.place (rest-there (take (kept + read) buffer) ended)
+      moved : slice rest (kept + read) buffer ≡ kept_bytes
+      unfolding slice
+      moved = rw has_read.place (rest-there (take (kept + read) buffer) ended)
 
       many : kept + read - rest ≡ length kept_bytes
-      many = sym (length-take-le (kept + read - rest) (drop rest buffer) (omega (arith, length-drop rest buffer))) ∙ ap length moved
+      unfolding slice
+      many =
+          sym (ap (λ (n : ℕ). n - rest) size) ∙ sym (length-drop rest (take (kept + read) buffer)) ∙ ap length moved
 
-      pub step-delivers : {buffer₁ : List ℕ} → buffer₁ ≡ copy_within buffer rest (kept + read) 0 →
+      pub step-delivers : {buffer₁ : List ℕ} → buffer₁ ≡ over (slice rest (kept + read) buffer) buffer →
           step_outcome (step_gives bytes frames (kept + read - rest)) buffer₁ m₁ ≡ step_read kept read ended buffer m
       unfolding step_read stepped
       step-delivers {buffer₁} w =
           let room : kept + read ≤ length m = omega (arith, has_read.roomy, size) in
-          let front : buffer₁ ≡ over kept_bytes buffer = w ∙ rw (moved, many) (ap (λ (n : ℕ). kept_bytes ++ drop n buffer) (omega arith)) in
+          let front : buffer₁ ≡ over kept_bytes buffer = w ∙ ap (λ (l : List ℕ). over l buffer) moved in
           rw (le-leb _ _ fits, le-leb _ _ room)
           (cc (has_read.memory, has_read.size, has_read.count, many, front))
 

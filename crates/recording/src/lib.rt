@@ -4,7 +4,9 @@
 // proofs/Blocks.antt.
 #![tactic(auto)]
 
-ghost use Rattle.std.specs.Prelude.{◌≡◌};
+ghost use Rattle.std.specs.Prelude.{◌≡◌, ◌≤◌, length};
+ghost use Rattle.slice_bytes.specs.Place.{slice};
+ghost use Rattle.laws.specs.Memory.{over};
 ghost use Rattle.recording.specs.Step.{step_outcome, step_read};
 
 use frame::refusal::Refusal;
@@ -16,6 +18,17 @@ pub struct StepRead {
     pub bytes: usize,
     pub frames: usize,
     pub kept: usize,
+}
+
+// Moves the bytes from `rest` up to `end` to the front. Place by place, where `copy_within` would do as much: a must-fail edit changes
+// the first place, and a harmless change of it is proved.
+fn move_to_front(buffer: &mut [u8], rest: usize, end: usize)
+    requires { (rest ≤ end) × (end ≤ length buffer.old) }
+    ensures { buffer.new ≡ over (slice rest end buffer.old) buffer.old }
+{
+    for i in 0..end - rest {
+        buffer[i] = buffer[rest + i];
+    }
 }
 
 // Reads the first `kept` bytes of the buffer, the rest of the step before, and the `read` bytes behind them as a block of the
@@ -36,7 +49,7 @@ pub fn read_step(
     }
     let end = kept + read;
     let block = line_block::read_block(&buffer[..end], ended, out)?;
-    buffer.copy_within(block.rest..end, 0);
+    move_to_front(buffer, block.rest, end);
     Ok(StepRead {
         bytes: block.bytes,
         frames: block.frames,

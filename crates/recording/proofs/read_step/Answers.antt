@@ -30,11 +30,11 @@ returns-in_err-block c =
     (step-refused _ _ _ _ _ (omega arith)
     (ap (λ (r : Result BlockRead Refusal). outcome r c.read_block.new.out) (sym c.in_err-block.was) ∙ c.read_block.ensures))
 
-pub copy_within-requires-clause-start_le_end : goal.copy_within-requires-clause-start_le_end
-copy_within-requires-clause-start_le_end c = rest-within (goal.at.copy_within-requires-clause-start_le_end c).In_ok-block
+pub move_to_front-requires : goal.move_to_front-requires
+move_to_front-requires c = (rest-within (goal.at.move_to_front-requires c).In_ok-block, omega arith)
 
 pub overflow_sub-result : goal.overflow_sub-result
 overflow_sub-result c = rest-within (goal.at.overflow_sub-result c).In_ok-block
 
 pub returns : goal.returns
-returns c = step-delivers _ _ _ _ _ (omega arith) (reading (goal.at.returns c).In_ok-block) c.copy_within.ensures.after
+returns c = step-delivers _ _ _ _ _ (omega arith) (reading (goal.at.returns c).In_ok-block) c.move_to_front.ensures
