@@ -69,17 +69,21 @@ def rust(text):
 
 def antt(text, statements):
     text = bare(text, '--')
-    found, module = {}, ''
+    found, modules = {}, []
     lines = text.split('\n')
     i = 0
     while i < len(lines):
         l = lines[i]
         m = re.match(r'^( *)((?:abbrev |unfoldable |pattern )*)(pub )(?!mod |use )(record |data )?([^\s:({]+)', l)
-        if l.startswith('module _'):
-            module = squeeze(l)
-        elif l and not l.startswith(' '):
-            module = module if l.startswith('unfolding') else ('' if not l.startswith('module') else module)
-        if not m or len(m.group(1)) > 4 or (len(m.group(1)) > 0 and not module):
+        deep = len(l) - len(l.lstrip())
+        if l.strip() and not l.lstrip().startswith('unfolding'):
+            modules = [(at, line) for at, line in modules if at < deep]
+        if l.lstrip().startswith('module _'):
+            j = i
+            while not re.search(r'\bwhere$', lines[j]) and j + 1 < len(lines): j += 1
+            modules.append((deep, squeeze('\n'.join(lines[i:j + 1]))))
+            i = j + 1; continue
+        if not m or (deep > 0 and not modules):
             i += 1; continue
         j = i + 1
         indent = len(m.group(1))
@@ -96,7 +100,7 @@ def antt(text, statements):
         said = squeeze('\n'.join(block))
         if not whole:
             said = re.split(r' unfolding [^:]*$| unfolding ', said)[0]
-        found[name] = (squeeze(module) + ' | ' if module and indent else '') + said
+        found[name] = ''.join(line + ' | ' for _, line in modules) + said
         i = j if whole else i + 1
     return found
 
